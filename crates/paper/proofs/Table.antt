@@ -1,0 +1,178 @@
+-- The table of patterns: its rule by one computed test, and what a block is found as.
+-- Assumes nothing.
+use mathlib.Core.Path.{_≡_, refl, sym, ap, ap₂}
+use mathlib.Core.Logic.{_≢_}
+use mathlib.Core.Bool.{Bool, true, false, _&&_, not}
+use mathlib.Core.List.{List, [], _∷_}
+use Prim.Native.Nat.{ℕ, suc, _+_, _%_, _<_, _≤_}
+use native.Mathlib.Omega.{arith}
+use lib.Dec.{leb, eqb, T}
+use lib.ListN.{length, getD, take}
+use borrow.Author.Tests.{leb-true, eqb-true, eq-eqb}
+use Rattle.paper.specs.Answers.{if_then_else_, Each}
+use Rattle.paper.specs.Iso15417.{widths, drawn, pattern, stop, same, Look, is, unknown, foundIn, found, cells, count}
+use Rattle.paper.specs.Chars.{chars, entry, chars-computes}
+use Rattle.paper.specs.Rules.{runs, barCells, Pattern, rules-computes}
+use Rattle.paper.proofs.Answering.{true-not-false, and-true, truth}
+use Rattle.paper.proofs.Below.{below, at, and-left, and-right}
+
+-- ---- equal lists
+
+pub same-true : (xs ys : List ℕ) → same xs ys ≡ true → xs ≡ ys
+unfolding same
+same-true [] [] e = refl
+same-true [] (y ∷ ys) e = true-not-false (sym e)
+same-true (x ∷ xs) [] e = true-not-false (sym e)
+same-true (x ∷ xs) (y ∷ ys) e =
+    let both = and-true (eqb x y) (same xs ys) e in
+    ap₂ (λ (a : ℕ) (l : List ℕ). a ∷ l) (eqb-true x y (both .0)) (same-true xs ys (both .1))
+
+pub same-refl : (xs : List ℕ) → same xs xs ≡ true
+unfolding same
+same-refl [] = refl
+same-refl (x ∷ xs) = rw (eq-eqb x x refl) (same-refl xs)
+
+pub eq-same : (xs ys : List ℕ) → xs ≡ ys → same xs ys ≡ true
+eq-same xs ys e = rw e (same-refl ys)
+
+-- ---- computed tests, as facts
+
+pub as-equal : (a b : ℕ) → T (eqb a b) → a ≡ b
+as-equal a b t = eqb-true a b (truth (eqb a b) t)
+
+pub as-least : (a b : ℕ) → T (leb a b) → a ≤ b
+as-least a b t = leb-true a b (truth (leb a b) t)
+
+as-same : (xs ys : List ℕ) → T (same xs ys) → xs ≡ ys
+as-same xs ys t = same-true xs ys (truth (same xs ys) t)
+
+as-other : (xs ys : List ℕ) → T (not (same xs ys)) → xs ≢ ys
+as-other xs ys t e = rw (eq-same xs ys e) at t
+
+-- ---- what a block is found as
+
+-- m is the number of the width at `place`, counted from n on, and the block is drawn by that width
+record FoundAt (n : ℕ) (ws b : List ℕ) (m : ℕ) : Type 0 where
+  place : ℕ
+  number : m ≡ n + place
+  listed : place < length ws
+  drawn-so : b ≡ drawn (getD ws place 0)
+
+-- the first of the widths, or one of the others
+first-or-other : (n w : ℕ) (ws b : List ℕ) (m : ℕ) (t : Bool) → same (drawn w) b ≡ t → (foundIn (suc n) ws b ≡ is m → FoundAt (suc n) ws b m)
+    → (if t then is n else foundIn (suc n) ws b) ≡ is m → FoundAt n (w ∷ ws) b m
+first-or-other n w ws b m true s others e =
+    let k : m ≡ n = cc in
+    record { place = 0; number = omega arith; listed = omega arith; drawn-so = sym (same-true (drawn w) b s) }
+first-or-other n w ws b m false s others e =
+    let r = others e in
+    record { place = suc (r .place); number = omega arith; listed = omega arith; drawn-so = r .drawn-so }
+
+found-in : (n : ℕ) (ws b : List ℕ) (m : ℕ) → foundIn n ws b ≡ is m → FoundAt n ws b m
+unfolding foundIn
+found-in n [] b m e = absurd (let z : _≡_ {A = ℕ} 0 1 = cc in omega arith)
+found-in n (w ∷ ws) b m e = first-or-other n w ws b m (same (drawn w) b) refl (found-in (suc n) ws b m) e
+
+all-widths : length widths ≡ 106
+unfolding widths
+all-widths = refl
+
+pub found-is : (b : List ℕ) (m : ℕ) → found b ≡ is m → (b ≡ pattern m) × (m < 106)
+unfolding found pattern
+found-is b m e =
+    let r = found-in 0 widths b m e in
+    let k : m ≡ r .place = omega arith in
+    (rw k (r .drawn-so), omega (arith, all-widths))
+
+-- ---- one test of the whole table
+
+every : (ℕ → Bool) → List ℕ → Bool
+every f [] = true
+every f (x ∷ xs) = f x && every f xs
+
+each-of-every : (f : ℕ → Bool) (P : ℕ → Type 0) → ((x : ℕ) → T (f x) → P x) → (xs : List ℕ) → T (every f xs) → Each P xs
+unfolding every
+each-of-every f P law [] t = tt
+each-of-every f P law (x ∷ xs) t = (law x (and-left (f x) (every f xs) t), each-of-every f P law xs (and-right (f x) (every f xs) t))
+
+looks : Look → ℕ → Bool
+looks (is k) m = eqb k m
+looks unknown m = false
+
+looks-is : (l : Look) (m : ℕ) → T (looks l m) → l ≡ is m
+unfolding looks
+looks-is (is k) m t = ap is (as-equal k m t)
+looks-is unknown m t = absurd t
+
+-- the tests of one entry: its pattern, how it is found, and the rule, in the order of the record Pattern
+right : ℕ → List ℕ → Bool
+right m p =
+    same p (pattern m) && looks (found p) m && eqb (length p) 11 && every (λ c. leb c 1) p && eqb (getD p 0 0) 1 && eqb (getD p 10 1) 0
+    && eqb (length (runs p)) 6 && every (λ w. leb 1 w && leb w 4) (runs p) && eqb (barCells p % 2) 0 && not (same p (take 11 stop))
+
+-- what they tell
+record Right (m : ℕ) (p : List ℕ) : Type 0 where
+  is-pattern : p ≡ pattern m
+  is-found : found p ≡ is m
+  is-ruled : Pattern p
+
+told : (m : ℕ) (p : List ℕ) → T (right m p) → Right m p
+unfolding right
+told m p t = record {
+  is-pattern = as-same p (pattern m) (search (and-left, and-right) depth 9);
+  is-found = looks-is (found p) m (search (and-left, and-right) depth 9);
+  is-ruled = record {
+    eleven = as-equal (length p) 11 (search (and-left, and-right) depth 9);
+    two-colours = each-of-every (λ c. leb c 1) (λ c. c ≤ 1) (λ c u. as-least c 1 u) p (search (and-left, and-right) depth 9);
+    begins = as-equal (getD p 0 0) 1 (search (and-left, and-right) depth 9);
+    ends = as-equal (getD p 10 1) 0 (search (and-left, and-right) depth 9);
+    six = as-equal (length (runs p)) 6 (search (and-left, and-right) depth 9);
+    narrow = each-of-every (λ w. leb 1 w && leb w 4) (λ w. (1 ≤ w) × (w ≤ 4))
+        (λ w u. (as-least 1 w (and-left (leb 1 w) (leb w 4) u), as-least w 4 (and-right (leb 1 w) (leb w 4) u))) (runs p) (search (and-left, and-right) depth 9);
+    even = as-equal (barCells p % 2) 0 (search (and-left, and-right) depth 9);
+    no-stop = as-other p (take 11 stop) (search (and-left, and-right) depth 9);
+  };
+}
+
+all-right : T (below (λ m. right m (entry m)) 106)
+unfolding right looks every chars-computes rules-computes
+all-right = tt
+
+at-entry : (m : ℕ) → m < 106 → Right m (entry m)
+at-entry m h = told m (entry m) (at (λ k. right k (entry k)) 106 all-right m h)
+
+-- ---- the promises of the table
+
+pub table-length : length chars ≡ 1166
+unfolding chars
+table-length = refl
+
+pub table-widths : chars ≡ cells (count 0 106)
+unfolding chars-computes rules-computes
+table-widths = refl
+
+pub table-rule : (m : ℕ) → m < 106 → Pattern (entry m)
+table-rule m h = at-entry m h .is-ruled
+
+pub table-found : (m : ℕ) → m < 106 → found (entry m) ≡ is m
+table-found m h = at-entry m h .is-found
+
+pub table-pattern : (m : ℕ) → m < 106 → entry m ≡ pattern m
+table-pattern m h = at-entry m h .is-pattern
+
+pub table-apart : (m k : ℕ) → m < 106 → k < 106 → entry m ≡ entry k → m ≡ k
+table-apart m k h l e = cc (table-found m h, table-found k l)
+
+-- ---- the same of the patterns
+
+rule-of-pattern : (m : ℕ) → m < 106 → Pattern (pattern m)
+rule-of-pattern m h = rw (table-pattern m h) at (table-rule m h)
+
+pub length-pattern : (m : ℕ) → m < 106 → length (pattern m) ≡ 11
+length-pattern m h = rule-of-pattern m h .eleven
+
+pub pattern-cells : (m : ℕ) → m < 106 → Each (λ c. c ≤ 1) (pattern m)
+pattern-cells m h = rule-of-pattern m h .two-colours
+
+pub found-pattern : (m : ℕ) → m < 106 → found (pattern m) ≡ is m
+found-pattern m h = rw (table-pattern m h) at (table-found m h)

@@ -1,0 +1,151 @@
+-- What document 01 takes from ISO/IEC 15417: bar patterns, check, the meaning of each number in each code set, the scanner reading.
+-- Document 01, "Patterns and check", "Spelling and scanner reading". Assumes nothing.
+use Prim.Native.Nat.{ℕ, zero, suc, _+_, _-_, _*_, _/_, _%_}
+use Prim.Native.String.{String}
+use mathlib.Core.Bool.{Bool, true, false, _&&_}
+use mathlib.Core.List.{List, [], _∷_, _++_, map}
+use lib.Dec.{ltb, eqb}
+use lib.ListN.{getD, replicate}
+use Rattle.paper.specs.Answers.{answers-computes, if_then_else_}
+use Rattle.paper.specs.Points.{points}
+
+-- ---- patterns
+
+-- The element widths of the symbols 0 to 105, bar, space, bar, space, bar, space, as the standard prints them.
+unfoldable pub widths : List ℕ
+widths =
+    212222 ∷ 222122 ∷ 222221 ∷ 121223 ∷ 121322 ∷ 131222 ∷ 122213 ∷ 122312 ∷ 132212 ∷ 221213 ∷
+    221312 ∷ 231212 ∷ 112232 ∷ 122132 ∷ 122231 ∷ 113222 ∷ 123122 ∷ 123221 ∷ 223211 ∷ 221132 ∷
+    221231 ∷ 213212 ∷ 223112 ∷ 312131 ∷ 311222 ∷ 321122 ∷ 321221 ∷ 312212 ∷ 322112 ∷ 322211 ∷
+    212123 ∷ 212321 ∷ 232121 ∷ 111323 ∷ 131123 ∷ 131321 ∷ 112313 ∷ 132113 ∷ 132311 ∷ 211313 ∷
+    231113 ∷ 231311 ∷ 112133 ∷ 112331 ∷ 132131 ∷ 113123 ∷ 113321 ∷ 133121 ∷ 313121 ∷ 211331 ∷
+    231131 ∷ 213113 ∷ 213311 ∷ 213131 ∷ 311123 ∷ 311321 ∷ 331121 ∷ 312113 ∷ 312311 ∷ 332111 ∷
+    314111 ∷ 221411 ∷ 431111 ∷ 111224 ∷ 111422 ∷ 121124 ∷ 121421 ∷ 141122 ∷ 141221 ∷ 112214 ∷
+    112412 ∷ 122114 ∷ 122411 ∷ 142112 ∷ 142211 ∷ 241211 ∷ 221114 ∷ 413111 ∷ 241112 ∷ 134111 ∷
+    111242 ∷ 121142 ∷ 121241 ∷ 114212 ∷ 124112 ∷ 124211 ∷ 411212 ∷ 421112 ∷ 421211 ∷ 212141 ∷
+    214121 ∷ 412121 ∷ 111143 ∷ 111341 ∷ 131141 ∷ 114113 ∷ 114311 ∷ 411113 ∷ 411311 ∷ 113141 ∷
+    114131 ∷ 311141 ∷ 411131 ∷ 211412 ∷ 211214 ∷ 211232 ∷ []
+
+-- the cells of one element, "1 for bar and 0 for space": as many as the last digit of w says
+unfoldable pub bar : ℕ → List ℕ
+bar w = replicate (w % 10) 1
+
+unfoldable pub space : ℕ → List ℕ
+space w = replicate (w % 10) 0
+
+-- "three bars and three spaces": 212222 is 11011001100
+unfoldable pub drawn : ℕ → List ℕ
+drawn w = bar (w / 100000) ++ space (w / 10000) ++ bar (w / 1000) ++ space (w / 100) ++ bar (w / 10) ++ space w
+
+-- the eleven cells of the number m
+unfoldable pub pattern : ℕ → List ℕ
+pattern m = drawn (getD widths m 0)
+
+-- "The stop is 1100011101011", in the standard 2331112
+unfoldable pub stop : List ℕ
+stop = drawn 233111 ++ bar 2
+
+unfoldable pub same : List ℕ → List ℕ → Bool
+same [] [] = true
+same [] (y ∷ ys) = false
+same (x ∷ xs) [] = false
+same (x ∷ xs) (y ∷ ys) = eqb x y && same xs ys
+
+-- what a block of cells is: the pattern of a number, or "none of the 106 patterns"
+pub data Look : Type 0 where
+  is : ℕ → Look
+  unknown : Look
+
+-- looked for among these widths, the first of them that of m
+unfoldable pub foundIn : ℕ → List ℕ → List ℕ → Look
+foundIn m [] block = unknown
+foundIn m (w ∷ ws) block = if same (drawn w) block then is m else foundIn (suc m) ws block
+
+unfoldable pub found : List ℕ → Look
+found block = foundIn 0 widths block
+
+-- ---- check and row
+
+-- "the sum of number times weight", the first number weighing w and each next one more
+unfoldable pub weighed : ℕ → List ℕ → ℕ
+weighed w [] = 0
+weighed w (x ∷ xs) = w * x + weighed (suc w) xs
+
+-- "modulo 103. The START weighs 1, and so does place 1; place i weighs i."
+unfoldable pub check : List ℕ → ℕ
+check [] = 0
+check (start ∷ numbers) = (start + weighed 1 numbers) % 103
+
+unfoldable pub cells : List ℕ → List ℕ
+cells [] = []
+cells (x ∷ xs) = pattern x ++ cells xs
+
+-- the row of a symbol list: the patterns of its numbers, the check's, the stop
+unfoldable pub row : List ℕ → List ℕ
+row s = cells (s ++ (check s ∷ [])) ++ stop
+
+-- ---- code sets
+
+-- the three code sets, and before the START none
+pub data Set : Type 0 where
+  before A B C : Set
+
+-- "Later they switch": the set after a number. The STARTs are 103, 104, 105; Code C is 99, Code B 100, Code A 101, and 99 in set C is a pair.
+unfoldable pub next : Set → ℕ → Set
+next before m = if eqb m 103 then A else if eqb m 104 then B else if eqb m 105 then C else before
+next A m = if eqb m 99 then C else if eqb m 100 then B else A
+next B m = if eqb m 99 then C else if eqb m 101 then A else B
+next C m = if eqb m 100 then B else if eqb m 101 then A else C
+
+-- "two ASCII digits": those of a number below 100
+unfoldable pub digits : ℕ → List ℕ
+digits m = (48 + m / 10) ∷ (48 + m % 10) ∷ []
+
+-- "Scan gives 7-bit bytes": those of a number; "START, Shift and the function symbols give nothing", nor do switches
+unfoldable pub sent : Set → ℕ → List ℕ
+sent before m = []
+sent A m = if ltb m 64 then (m + 32) ∷ [] else if ltb m 96 then (m - 64) ∷ [] else []
+sent B m = if ltb m 96 then (m + 32) ∷ [] else []
+sent C m = if ltb m 100 then digits m else []
+
+-- "Switches move the set"
+unfoldable pub scanned : Set → List ℕ → List ℕ
+scanned s [] = []
+scanned s (m ∷ ms) = sent s m ++ scanned (next s m) ms
+
+-- ---- the standard's own table: what each number means in each set
+
+pub data Meaning : Type 0 where
+  ascii : ℕ → Meaning
+  pair : ℕ → Meaning
+  FNC : ℕ → Meaning
+  SHIFT : Meaning
+  CODE : Set → Meaning
+  START : Set → Meaning
+
+-- the numbers from m on, n of them
+unfoldable pub count : ℕ → ℕ → List ℕ
+count m zero = []
+count m (suc n) = m ∷ count (suc m) n
+
+unfoldable pub printed : String → List Meaning
+printed text = map ascii (points text)
+
+-- The columns "Code set A", "Code set B", "Code set C" of the table of symbol characters, from number 0 on; before the START, from 103 on.
+unfoldable pub column : Set → List Meaning
+column before = START A ∷ START B ∷ START C ∷ []
+column A =
+    printed " !\"#$%&'()*+,-./0123456789:;<=>?@ABCDEFGHIJKLMNOPQRSTUVWXYZ[\\]^_" ++
+    printed "\0\u{1}\u{2}\u{3}\u{4}\u{5}\u{6}\u{7}\u{8}\t\n\u{b}\u{c}\r\u{e}\u{f}" ++
+    printed "\u{10}\u{11}\u{12}\u{13}\u{14}\u{15}\u{16}\u{17}\u{18}\u{19}\u{1a}\u{1b}\u{1c}\u{1d}\u{1e}\u{1f}" ++
+    (FNC 3 ∷ FNC 2 ∷ SHIFT ∷ CODE C ∷ CODE B ∷ FNC 4 ∷ FNC 1 ∷ [])
+column B =
+    printed " !\"#$%&'()*+,-./0123456789:;<=>?@ABCDEFGHIJKLMNOPQRSTUVWXYZ[\\]^_" ++
+    printed "`abcdefghijklmnopqrstuvwxyz{|}~\u{7f}" ++
+    (FNC 3 ∷ FNC 2 ∷ SHIFT ∷ CODE C ∷ FNC 4 ∷ CODE A ∷ FNC 1 ∷ [])
+column C = map pair (count 0 100) ++ (CODE B ∷ CODE A ∷ FNC 1 ∷ [])
+
+-- what a proof by computation names on its `unfolding` line: it opens every definition above
+unfoldable pub iso15417-computes : Unit {0}
+unfolding widths bar space drawn pattern stop same foundIn found weighed check cells row next digits sent scanned count printed column points answers-computes
+iso15417-computes = tt

@@ -1,0 +1,11 @@
+pub mod Answers
+pub mod Points
+pub mod Iso15417
+pub mod Crate
+pub mod Settle
+pub mod Chars
+pub mod Rules
+pub mod Jobs
+pub mod Labels
+pub mod Damage
+pub mod Promises

@@ -1,0 +1,105 @@
+-- The rule of the table of patterns, and the crate's numbers held against the standard's table.
+-- Document 01, "Patterns and check" and "Tokens and character sets". Assumes nothing.
+use Prim.Native.Nat.{ℕ, suc, _+_, _-_, _%_, _≤_}
+use mathlib.Core.Path.{_≡_}
+use mathlib.Core.Logic.{_≢_}
+use mathlib.Core.Bool.{Bool, true, false}
+use mathlib.Core.List.{List, [], _∷_, _++_}
+use lib.Dec.{eqb}
+use lib.ListN.{length, getD, take}
+use Rattle.paper.specs.Answers.{if_then_else_, Each}
+use Rattle.paper.specs.Iso15417.{Set, before, A, B, C, Meaning, ascii, pair, FNC, SHIFT, CODE, START, stop, same, next, digits, sent, column}
+use Rattle.paper.specs.Crate.{crate-computes, À, Ɓ, Ć, Ź, ź, Ż, ż, Ž, letters}
+
+-- ---- the table
+
+-- the lengths of a block's bars and spaces, in order
+unfoldable pub longer : Bool → List ℕ → List ℕ
+longer true [] = []
+longer true (k ∷ ks) = suc k ∷ ks
+longer false ks = 1 ∷ ks
+
+unfoldable pub runs : List ℕ → List ℕ
+runs [] = []
+runs (c ∷ []) = 1 ∷ []
+runs (c ∷ d ∷ cs) = longer (eqb c d) (runs (d ∷ cs))
+
+unfoldable pub barCells : List ℕ → ℕ
+barCells [] = 0
+barCells (c ∷ cs) = c + barCells cs
+
+-- "Every pattern begins with 1 and ends with 0, has three bars and three spaces of 1 to 4 cells, an even number of bar cells, and equals no
+-- other pattern nor the first eleven cells of the stop."
+pub record Pattern (p : List ℕ) : Type 0 where
+  pub eleven : length p ≡ 11
+  pub two-colours : Each (λ c. c ≤ 1) p
+  pub begins : getD p 0 0 ≡ 1
+  pub ends : getD p 10 1 ≡ 0
+  pub six : length (runs p) ≡ 6
+  pub narrow : Each (λ w. (1 ≤ w) × (w ≤ 4)) (runs p)
+  pub even : barCells p % 2 ≡ 0
+  pub no-stop : p ≢ take 11 stop
+
+-- ---- the numbers of the code sets
+
+-- the code point that names a set
+unfoldable pub nameOf : Set → List ℕ
+nameOf before = []
+nameOf A = À ∷ []
+nameOf B = Ɓ ∷ []
+nameOf C = Ć ∷ []
+
+-- the code points by which the crate writes what the standard means
+unfoldable pub written : Meaning → List ℕ
+written (ascii c) = c ∷ []
+written (pair m) = digits m
+written (FNC k) = getD (Ź ∷ ź ∷ Ż ∷ ż ∷ []) (k - 1) 0 ∷ []
+written SHIFT = Ž ∷ []
+written (CODE s) = nameOf s
+written (START s) = nameOf s
+
+-- what a scanner sends for it
+unfoldable pub message : Meaning → List ℕ
+message (ascii c) = c ∷ []
+message (pair m) = digits m
+message (FNC k) = []
+message SHIFT = []
+message (CODE s) = []
+message (START s) = []
+
+-- the set after it
+unfoldable pub leads : Set → Meaning → Set
+leads s (ascii c) = s
+leads s (pair m) = s
+leads s (FNC k) = s
+leads s SHIFT = s
+leads s (CODE t) = t
+leads s (START t) = t
+
+-- three questions to a number in a set: is it written, sent and followed as the standard means it?
+unfoldable pub writes : Set → ℕ → Meaning → Bool
+writes s m x = same (letters s m) (written x)
+
+unfoldable pub sends : Set → ℕ → Meaning → Bool
+sends s m x = same (sent s m) (message x)
+
+unfoldable pub switches : Set → ℕ → Meaning → Bool
+switches s m x = same (nameOf (next s m)) (nameOf (leads s x))
+
+-- the numbers of a set, from m on, for which the answer is no
+pub data Spot : Type 0 where
+  at : Set → ℕ → Spot
+
+unfoldable pub partings : (Set → ℕ → Meaning → Bool) → Set → ℕ → List Meaning → List Spot
+partings agrees s m [] = []
+partings agrees s m (x ∷ xs) = (if agrees s m x then [] else (at s m ∷ [])) ++ partings agrees s (suc m) xs
+
+-- in the whole table: the STARTs, and 103 numbers in each of the three sets
+unfoldable pub partsAt : (Set → ℕ → Meaning → Bool) → List Spot
+partsAt agrees =
+    partings agrees before 103 (column before) ++ partings agrees A 0 (column A) ++ partings agrees B 0 (column B) ++ partings agrees C 0 (column C)
+
+-- what a proof by computation names on its `unfolding` line: it opens every definition above
+unfoldable pub rules-computes : Unit {0}
+unfolding longer runs barCells nameOf written message leads writes sends switches partings partsAt crate-computes
+rules-computes = tt
