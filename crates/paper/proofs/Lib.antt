@@ -1,4 +1,5 @@
 pub mod Labels
+pub mod Against
 pub mod Below
 pub mod Answering
 pub mod Results

@@ -9,3 +9,4 @@ pub mod Jobs
 pub mod Labels
 pub mod Damage
 pub mod Promises
+pub mod Examples

@@ -1,0 +1,1015 @@
+"""Makes crates/paper/specs/Examples.antt and crates/paper/proofs/Against.antt.
+
+    python3 make.py CRATE ORACLE REPOSITORY
+
+CRATE is the folder with the crate's src/, ORACLE the program built of oracle.rs, REPOSITORY the folder with crates/.
+Expected values come from the crate (run by ORACLE), from document 01 by hand, or from model.py. model.py has to agree with every one of them.
+Nothing here reads the definitions in specs/.
+"""
+import os
+import random
+import subprocess
+import sys
+import textwrap
+
+import model
+from model import PATTERNS, STOP, refuse
+
+CRATE, ORACLE, REPOSITORY = sys.argv[1:4]
+model.load_patterns(os.path.join(CRATE, "src", "sym", "code128.rs"))
+ROOM = 2829
+SWEPT = 512
+rng = random.Random(15417)
+
+
+def P(label):
+    return [ord(c) for c in label]
+
+
+# ---------------------------------------------------------------- the crate
+
+
+def crate_many(labels):
+    """What the crate answers: 'L', 'C' or the row as a text of 0 and 1."""
+    sent = "".join(" ".join("%X" % c for c in label) + "\n" for label in labels)
+    got = subprocess.run([ORACLE], input=sent, capture_output=True, text=True, check=True).stdout.split("\n")[:-1]
+    assert len(got) == len(labels)
+    return got
+
+
+CONTINUE = ["", "À", "0", "00", "Ź0", "A", "a"]
+
+
+def crate_places(labels):
+    """Of each label the length of the longest prefix that some continuation makes the crate accept."""
+    tries = [(i, k, label[:k] + P(more)) for i, label in enumerate(labels) for k in range(len(label) + 1) for more in CONTINUE]
+    longest = [0] * len(labels)
+    for (i, k, _), got in zip(tries, crate_many([t for _, _, t in tries])):
+        if got not in "LC":
+            longest[i] = max(longest[i], k)
+    return longest
+
+
+def crate_answers(labels):
+    """The answer to each label. Refusal 4, which the crate lacks, has the symbols of the crate's row."""
+    answers = []
+    for label, got, place in zip(labels, crate_many(labels), crate_places(labels)):
+        if got == "L":
+            answer = refuse(2, 0)
+        elif got == "C":
+            answer = refuse(3, place)
+        else:
+            n = (len(got) - 24) // 11
+            answer = ("accept", n, [int(d) for d in got]) if n <= 255 else refuse(4, n)
+        assert answer == model.encode(ROOM, label), (label, answer)
+        answers.append(answer)
+    return answers
+
+
+# ---------------------------------------------------------------- antt
+
+PLAIN = set("ÀƁĆŹźŻżŽ÷€ć") | {chr(c) for c in range(0x20, 0x7F)}
+TABLES, STATEMENTS, COUNTS = [], [], []
+
+
+SHORT = {"\\": "\\\\", "\"": "\\\"", "\0": "\\0", "\t": "\\t", "\n": "\\n", "\r": "\\r"}
+
+
+def text(points):
+    out = ""
+    for c in points:
+        ch = chr(c)
+        out += SHORT[ch] if ch in SHORT else ch if ch in PLAIN else "\\u{%x}" % c
+    return '"' + out + '"'
+
+
+def listed(ms):
+    return " ∷ ".join([str(m) for m in ms] + ["[]"])
+
+
+def hexed(cells):
+    s = "".join(map(str, cells))
+    s += "0" * (-len(s) % 4)
+    return '"' + "".join("%X" % int(s[i:i + 4], 2) for i in range(0, len(s), 4)) + '"'
+
+
+def hexed_bytes(record):
+    return 'bytesOf "' + " ".join("%02X" % b for b in record) + '"'
+
+
+def wrapped(piece, width):
+    """An entry too long for a line goes on in the next one, from its last part on that leaves both short enough."""
+    for word in (" ⇒ ", " gives ", " draws ", " sends "):
+        at = piece.find(word)
+        if 0 < at <= width and len(piece) - at <= width:
+            return piece[:at] + "\n   " + piece[at:]
+    assert False, piece
+
+
+def listing(entries, width=160):
+    """Entries one after the other, as many to a line as fit."""
+    lines, line = [], ""
+    for e in entries:
+        piece = "(%s) ∷" % e
+        if line and len(line) + 1 + len(piece) > width:
+            lines.append(line)
+            line = ""
+        if len(piece) > width:
+            lines.append(wrapped(piece, width))
+        else:
+            line = line + " " + piece if line else piece
+    if line:
+        lines.append(line)
+    return "".join("    %s\n" % x for x in lines[:-1] + [lines[-1] + " []"])
+
+
+def title(words):
+    TABLES.append("-- ---- %s\n" % words)
+
+
+def table(group, name, kind, comment, entries, each=1):
+    """A table; `each`: how many answers an entry is compared on."""
+    said = "\n".join("-- " + line for line in comment.split("\n"))
+    TABLES.append("%s\nunfoldable pub %s : List %s\n%s =\n%s" % (said, name, kind, name, listing(entries)))
+    COUNTS.append((group, name, len(entries) * each))
+
+
+def states(name, statement):
+    STATEMENTS.append((name, statement))
+
+
+def plain_answer(answer, form):
+    if answer[0] == "refuse":
+        return "refuse %d %d" % answer[1:]
+    return "accept %d (%s)" % (answer[1], form(answer[2]))
+
+
+def row_answer(answer):
+    if answer[0] == "refuse":
+        return "refuse %d %d" % answer[1:]
+    assert len(answer[2]) == 11 * answer[1] + 24
+    return "accepted %d %s" % (answer[1], hexed(answer[2]))
+
+
+def labels_table(group, name, comment, labels):
+    unique = [list(t) for t in dict.fromkeys(tuple(l) for l in labels)]
+    answers = crate_answers(unique)
+    table(group, name, "Label", comment, ["%s ⇒ %s" % (text(l), row_answer(a)) for l, a in zip(unique, answers)])
+    states("%s-hold" % name, "answered %s ≡ expected %s" % (name, name))
+    return list(zip(unique, answers))
+
+
+def points_table(group, name, comment, labels):
+    """As labels_table, the labels written as code points in hexadecimal."""
+    shown = [" ∷ ".join(["0x%X" % c for c in l] + ["[]"]) for l in labels]
+    table(group, name, "Example", comment, ["%s into 2829 gives %s" % (x, row_answer(a)) for x, a in zip(shown, crate_answers(labels))])
+    states("%s-hold" % name, "map (asked encoding) %s ≡ map given %s" % (name, name))
+
+
+def examples_table(group, name, job, comment, entries):
+    table(group, name, "Example", comment, entries)
+    for j in job.split():
+        states("%s-hold" % name if j == job else "%s-of-%s" % (name, j), "map (asked %s) %s ≡ map given %s" % (j, name, name))
+
+
+def held_to(job, shown, value, room, answer, form):
+    got = getattr(model, job)(room, value)
+    assert got == answer, (job, shown, room, got, answer)
+    return "%s into %d gives %s" % (shown, room, form(answer))
+
+
+def accept(out, number=None):
+    return ("accept", len(out) if number is None else number, list(out))
+
+
+# ================================================================ a. document 01's labels
+
+title("a. document 01's labels")
+
+A254 = [104] + [33] * 254
+C508 = [105] + [int("0123456789"[2 * i % 10:2 * i % 10 + 2]) for i in range(254)]
+assert model.parse(P("Ɓ" + "A" * 254)) == A254 and model.parse(P("Ć" + "0123456789" * 50 + "01234567")) == C508
+
+hand_a = [
+    ('points "Ć1À"', P("Ć1À"), ROOM, refuse(3, 2)),
+    ('points "Ɓ\\u{7f}"', P("Ɓ\x7f"), ROOM, refuse(3, 1)),
+    ("65 ∷ 0xD800 ∷ []", [65, 0xD800], ROOM, refuse(1, 1)),
+    ("0x110000 ∷ []", [0x110000], ROOM, refuse(1, 0)),
+    ("Ɓ ∷ replicate 255 65", [0x181] + [65] * 255, ROOM, refuse(4, 256)),
+    ("Ɓ ∷ replicate 300 65 ++ (0x20AC ∷ [])", [0x181] + [65] * 300 + [0x20AC], ROOM, refuse(3, 301)),
+    ('points "À"', P("À"), 34, refuse(5, 35)),
+    ('points "À"', P("À"), 35, ("accept", 1, "11010000100110110011001100011101011")),
+    # the label program's lines
+    ('points "À"', P("À"), ROOM, ("accept", 1, "11010000100110110011001100011101011")),
+    ('points "Ć12"', P("Ć12"), ROOM, ("accept", 2, "1101001110010110011100100110011101100011101011")),
+    ("[]", [], ROOM, refuse(2, 0)),
+    ('points "Ć1"', P("Ć1"), ROOM, refuse(3, 2)),
+    ("0xD800 ∷ []", [0xD800], ROOM, refuse(1, 0)),
+]
+entries = []
+for shown, value, room, answer in hand_a:
+    want = answer if answer[0] == "refuse" else accept([int(d) for d in answer[2]], answer[1])
+    entries.append(held_to("encode", shown, value, room, want, lambda a: plain_answer(a, lambda o: 'cellsOf "%s"' % "".join(map(str, o)))))
+examples_table("a", "unstarred", "encoding", "\"Labels on each side of the line\", those without a star, and the lines of \"The label program\", all as document 01 prints them.", entries)
+
+entries = []
+for shown, value, room, answer in [
+    ("1 ∷ 0 ∷ []", [1, 0], ROOM, refuse(22, 0)),
+    ("2 ∷ 1 ∷ []", [2, 1], ROOM, refuse(21, 2)),
+    ("1 ∷ []", [1], ROOM, refuse(20, 1)),
+]:
+    entries.append(held_to("unpack", shown, value, room, answer, lambda a: plain_answer(a, listed)))
+examples_table("a", "unstarredRecords", "unpacking", "\"Unpack of 1, 0: 22, 0. Of 2, 1: 21, 2. Of one byte: 20, 1.\"", entries)
+
+LONG_C = model.check_of(A254), model.check_of(C508)
+pairs5 = " ".join(PATTERNS[m] for m in (1, 23, 45, 67, 89))
+TABLES.append("""-- "Ɓ and 254 A: n = 255." and "Ć and 508 digits: n = 255.", the digits being 0 to 9 over and over. The rows are put together here of patterns
+-- of `CHARS`, copied from the crate's source; the checks are %d and %d, by arithmetic outside.
+unfoldable pub longest : List Example
+longest =
+    ((Ɓ ∷ replicate 254 65) into 2829 gives accept 255
+    (cellsOf "%s" ++ (times 254 (cellsOf "%s") ++ cellsOf "%s %s"))) ∷
+    ((Ć ∷ times 50 (points "0123456789") ++ points "01234567") into 2829 gives accept 255
+    (cellsOf "%s" ++ (times 50 (cellsOf "%s") ++
+    cellsOf "%s %s %s"))) ∷ []
+""" % (*LONG_C, PATTERNS[104], PATTERNS[33], PATTERNS[LONG_C[0]], STOP,
+       PATTERNS[105], pairs5, " ".join(PATTERNS[m] for m in (1, 23, 45, 67)), PATTERNS[LONG_C[1]], STOP))
+COUNTS.append(("a", "longest", 2))
+states("longest-hold", "map (asked encoding) longest ≡ map given longest")
+
+entries = []
+for shown, value, room, answer in [
+    # 1 over the whole input before 2, 3, 4 and 5
+    ("0xDFFF ∷ []", [0xDFFF], ROOM, refuse(1, 0)),
+    ("0xFFFFFFFF ∷ []", [0xFFFFFFFF], ROOM, refuse(1, 0)),
+    ("0xD7FF ∷ []", [0xD7FF], ROOM, refuse(3, 0)),
+    ("0xE000 ∷ []", [0xE000], ROOM, refuse(3, 0)),
+    ("0x10FFFF ∷ []", [0x10FFFF], ROOM, refuse(3, 0)),
+    ("À ∷ 0xDBFF ∷ 0xDC00 ∷ []", [0xC0, 0xDBFF, 0xDC00], ROOM, refuse(1, 1)),
+    ("65 ∷ 65 ∷ 65 ∷ 0xDABC ∷ []", [65, 65, 65, 0xDABC], ROOM, refuse(1, 3)),
+    ("Ć ∷ 49 ∷ À ∷ 0x110000 ∷ 0xD800 ∷ []", [0x106, 49, 0xC0, 0x110000, 0xD800], 0, refuse(1, 3)),
+    ("Ɓ ∷ replicate 300 65 ++ (0xD800 ∷ [])", [0x181] + [65] * 300 + [0xD800], ROOM, refuse(1, 301)),
+    # 2 before 3 and 5
+    ("[]", [], 0, refuse(2, 0)),
+    ("0x7F ∷ []", [0x7F], 0, refuse(2, 0)),
+    ("0 ∷ []", [0], ROOM, refuse(2, 0)),
+    ("0x80 ∷ []", [0x80], 0, refuse(3, 0)),
+    ("65 ∷ 65 ∷ []", [65, 65], 0, refuse(3, 0)),
+    # 3 before 4 and 5, 4 before 5
+    ('points "ÀÀ"', P("ÀÀ"), 0, refuse(3, 1)),
+    ("Ć ∷ replicate 509 48", [0x106] + [48] * 509, ROOM, refuse(3, 510)),
+    ("Ć ∷ replicate 510 48", [0x106] + [48] * 510, 0, refuse(4, 256)),
+    ("Ɓ ∷ replicate 255 65", [0x181] + [65] * 255, 0, refuse(4, 256)),
+    # 5
+    ('points "À"', P("À"), 0, refuse(5, 35)),
+    ('points "Ć12"', P("Ć12"), 45, refuse(5, 46)),
+    ("Ɓ ∷ replicate 254 65", [0x181] + [65] * 254, 2828, refuse(5, 2829)),
+]:
+    entries.append(held_to("encode", shown, value, room, answer, lambda a: plain_answer(a, listed)))
+examples_table("a", "order", "encoding", "Encode's refusals, their places and their order, by hand from document 01's table and \"Order\". A Rust char cannot be D800..DFFF or above\n10FFFF, so the crate cannot be asked about refusal 1.", entries)
+
+# ================================================================ b. published examples
+
+title("b. published examples")
+
+PUBLISHED = [
+    ("ƁAIM", [104, 33, 41, 45], 45, "AIM"),
+    ("ƁAIMĆ1234", [104, 33, 41, 45, 99, 12, 34], 87, "AIM1234"),
+    ("ÀPJJ123C", [103, 48, 42, 42, 17, 18, 19, 35], 54, "PJJ123C"),
+    ("ƁWikipedia", [104, 55, 73, 75, 73, 80, 69, 68, 73, 65], 88, "Wikipedia"),
+]
+entries = []
+for label, symbols, check, message in PUBLISHED:
+    assert model.parse(P(label)) == symbols and model.check_of(symbols) == check and model.scan(ROOM, symbols)[2] == P(message)
+    entries.append('%s is (%s) checked %d sends "%s"' % (text(P(label)), listed(symbols), check, message))
+table("b", "published", "Published", """ISO/IEC 15417:2007, Figure 1, AIM in set B with the check 45, and Annex A.1, AIM1234 with the check 87; PJJ123C in set A with the check 54, and
+the word Wikipedia in set B, from the article "Code 128" there. The label that writes each, its symbols, its check and what a scanner sends. The
+sums, by hand: 104+33+82+135 = 354; 354+396+60+204 = 1014; 103+48+84+126+68+90+114+245 = 878; 104+55+146+225+292+400+414+476+584+585 = 3281.""", entries, each=3)
+states("published-hold", "map parsedAs published ≡ map printedAs published")
+
+wiki = "11010000100 11101110110 10110111000 10110111000 10011100110 11001110010 11001011100 10001000110 11101011000 1100011101011"
+assert "".join(map(str, model.encode(ROOM, P("ÀPJJ123C"))[2])) == wiki.replace(" ", "")
+aim = " ".join("".join("10"[i % 2] * int(w) for i, w in enumerate(ws)) for ws in "211214 111323 231311 113123 113123 2331112".split())
+assert aim == " ".join(PATTERNS[m] for m in (104, 33, 41, 45, 45)) + " " + STOP
+entries = ['points "ÀPJJ123C" into 112 gives accept 8 (cellsOf "%s")' % wiki,
+           'points "ƁAIM" into 68 gives accept 4 (cellsOf "%s")' % aim]
+assert model.encode(112, P("ÀPJJ123C"))[0] == model.encode(68, P("ƁAIM"))[0] == "accept"
+examples_table("b", "publishedRows", "encoding", "Two of their rows: PJJ123C of the bar patterns in the same article's table, AIM of the standard's widths 211214 111323 231311 113123 113123 2331112.", entries)
+
+# ================================================================ c. the crate's answers
+
+title("c. the crate's answers")
+TABLES.append("""-- All that follows under c is what `Code128` of barcoders 2.0.0, its source unchanged, answers when it is run; rows in hexadecimal.
+-- Error::Length is refusal 2 and Error::Character refusal 3. The crate tells no place: the place is the length of the longest prefix of the label
+-- that can be continued to a label which the crate accepts, found by running it on every prefix with these endings: none, À, 0, 00, Ź0, A, a.
+-- The crate cannot be asked about D800..DFFF and above 10FFFF, which are no Rust chars, nor about a buffer's room; it has no upper limit.
+""")
+
+full = open(os.path.join(CRATE, "src", "sym", "code128.rs"), encoding="utf-8").read()
+assert "const STOP: Encoding = [1, 1, 0, 0, 0, 1, 1, 1, 0, 1, 0];" in full and "const TERM: [u8; 2] = [1, 1];" in full
+flat = hexed([int(d) for p in PATTERNS for d in p])[1:-1]
+parts = [flat[i:i + 98] for i in range(0, len(flat), 98)]
+TABLES.append("""-- `CHARS`, all 1,166 cells as they stand in the crate's source, and `STOP` and `TERM`
+unfoldable pub crateChars : List ℕ
+crateChars =
+    take 1166 (fours (
+    %s))
+
+unfoldable pub crateStop : List ℕ
+crateStop = cellsOf "11000111010 11"
+""" % " ++\n    ".join('cellsOf "%s"' % p for p in parts))
+COUNTS.append(("c", "crateChars", 107))
+states("crate-chars", "chars ≡ crateChars")
+states("crate-patterns", "cells (count 0 106) ≡ crateChars")
+states("crate-stop", "stop ≡ crateStop")
+
+widths = []
+for p in PATTERNS:
+    runs = [1]
+    for x, y in zip(p, p[1:]):
+        if x == y:
+            runs[-1] += 1
+        else:
+            runs.append(1)
+    widths.append("".join(map(str, runs)))
+assert widths[0] == "212222" and widths[105] == "211232"
+lines = [" ".join(widths[i:i + 20]) for i in range(0, 106, 20)]
+TABLES.append("""-- the lengths of the bars and spaces of each pattern, counted outside in the crate's cells, and how many of its cells are bars
+unfoldable pub crateWidths : List ℕ
+crateWidths =
+    %s
+
+unfoldable pub crateBars : List ℕ
+crateBars = cellsOf "%s"
+""" % (" ++\n    ".join('cellsOf "%s"' % x for x in lines), "".join(str(p.count("1")) for p in PATTERNS)))
+COUNTS.append(("c", "crateWidths", 106))
+COUNTS.append(("c", "crateBars", 106))
+states("crate-widths", "joined (map runs (elevens 106 crateChars)) ≡ crateWidths")
+states("crate-bars", "map barCells (elevens 106 crateChars) ≡ crateBars")
+
+# every number in every set
+SPECIAL = "ŻźŽżŹ"
+numbers = [P("À") + list(range(a, b)) for a, b in ((0x20, 0x40), (0x40, 0x60), (0x00, 0x10), (0x10, 0x20))] + [P("À" + SPECIAL)]
+numbers += [P("Ɓ") + list(range(0x20, 0x40)), P("Ɓ") + list(range(0x40, 0x60)), P("Ɓ") + list(range(0x60, 0x7F)) + [0xF7], P("Ɓ" + SPECIAL)]
+numbers += [P("Ć" + "".join("%02d" % m for m in range(a, a + 25))) for a in (0, 25, 50, 75)] + [P("ĆŹ")]
+got = labels_table("c", "everyNumber", "every number of the three sets that is no switch", numbers)
+assert all(a[0] == "accept" for _, a in got)
+
+switches = ["ÀƁ", "ÀĆ", "ƁÀ", "ƁĆ", "ĆÀ", "ĆƁ", "ÀƁa", "ÀĆ00", "ƁÀ\x1f", "ƁĆ99", "ĆÀ\x00", "ĆƁz", "ÀƁÀƁ", "ÀĆÀĆ", "ƁĆƁĆ", "ÀƁĆÀĆƁÀ", "ĆƁÀĆƁÀĆ", "Ć12À\x01Ɓ~Ć34",
+            "ÀAƁaĆ55Ɓ5À5", "ĆŹƁŹÀŹĆŹ", "ÀĆ99Ɓ99À99", "ÀÀ", "ƁƁ", "ĆĆ", "ÀƁƁ", "ƁÀÀ", "ÀĆĆ", "ĆÀÀ", "ĆƁƁ", "Ć12Ć34", "ÀAÀ", "ƁaƁ", "ƁaÀ\x01a", "ÀĆ1À", "ÀĆ1Ɓ", "ÀĆ1Ć",
+            "Ć1À", "Ć1Ɓ", "Ć1Ć", "Ć123À", "Ć123Ɓ4", "ÀƁ\x1f", "ƁÀa", "ÀĆA", "ĆÀa", "ĆƁ\n"]
+labels_table("c", "everySwitch", "every switch, to another set and to the current one, and what follows it", [P(s) for s in switches])
+
+shifts = [start + c for start in "ÀƁĆ" for c in "ŽżźŻŹ"]
+shifts += ["ÀŽa", "ÀŽ\x01", "ƁŽ\x01", "ƁŽa", "ƁŽA", "ÀŽŽ", "ÀżA", "Ɓż€", "ƁźŻżŹ", "ĆŹŹŹ", "Ć12Ž", "Ć1Ž2", "Ć1ż2", "Ć1ź2", "Ć1Ż2", "ĆƁŽ", "ĆÀż", "ÀĆŽ", "ƁĆż"]
+labels_table("c", "everyFunction", "Shift and the function symbols in every set: Ž shifts nothing, and set C has Ź alone", [P(s) for s in shifts])
+
+held = ["Ć12", "Ć1Ź2", "ĆŹ12", "Ć1ŹŹ2", "Ć1ŹŹŹ2", "ĆŹ1Ź2", "ĆŹŹ1Ź2", "Ć12Ź", "ĆŹ1Ź2Ź", "Ć1Ź234", "Ć1Ź23Ź4", "Ć12Ź34", "Ć12Ź3Ź4", "Ć1ŹŹ23ŹŹ4Ź", "Ć0Ź0", "Ć9Ź9", "Ć00", "Ć99",
+        "Ć09", "Ć90", "ƁĆ1ŹŹ2", "ƁĆ1Ź2Ɓ", "Ć1Ź2ÀA", "Ć1Ź2Ɓa", "Ć1234567890", "Ć1", "Ć123", "Ć12345", "Ć1Ź", "Ć1ŹŹ", "Ć1Ź23", "Ć12Ź3", "Ć12Ź3Ź", "Ć1ŹÀ", "Ć1ŹƁ2", "Ć1ŹĆ2", "Ć1ŹA", "Ć1A",
+        "Ć1 2", "ĆA1", "Ć-1", "Ć1/", "Ć1:", "Ć/", "Ć:", "Ć12a", "Ć1a2", "Ć1Ź2a", "ÀĆ1", "ÀĆ1Ź", "ƁĆ1Ź2Ź3"]
+labels_table("c", "everyPair", "pairs, digits held across Ź, digits left over, switches with a digit held", [P(s) for s in held])
+
+foreign = [P("Ć") + l for l in ([0x661, 0x662], [0x661, 49, 50], [49, 0x661], [0xFF11, 0xFF12], [49, 0xFF12], [0xFF11, 50], [0x967, 0x968], [0xB2, 0xB3], [49, 0xB2], [0x1D7CF, 50])]
+foreign += [P("À") + [0x661], P("À") + [0xB2], P("Ɓ") + [0xFF11], P("Ɓ") + [0x2460], [0x661, 49]]
+points_table("c", "foreignDigits", "digits that are not ASCII", foreign)
+
+lone = [[]] + [[c] for c in (0x00, 0x30, 0x41, 0x7F, 0x80, 0xC0, 0x106, 0x181, 0xF7, 0x179, 0x7FF, 0x800, 0xFFFF, 0x10000, 0x10FFFF)]
+lone += [P(x) for x in ("AA", "12", "AÀ", "ŹÀ", " À", "\ufeffÀ", "A\u0300")]
+points_table("c", "firstPoints", "what a label may begin with, and Error::Length; 41 300 is A with a combining accent, which is no À", lone)
+
+doc = ["ƁHE1234A*1", "ÀHE@$AĆ123456", "À\x06", "ÀHELLO", "ÀXYĆ2199", "ƁxyZÀ199!*1", "ƁŹ4218402050À0", "ÀB\x06", "ÀPJJ123C", "ƁAIM", "ƁAIMĆ1234", "ƁWikipedia",
+       "ĆŹ0012345678901234567890", "ĆŹ0109501101530003Ɓ", "Ɓ-Rattle 0.1-"]
+labels_table("c", "documented", "the labels of the crate's own documentation, those of b, and others of everyday use", [P(s) for s in doc])
+
+
+# random labels; `stay` keeps them accepted
+def random_label(length, stay=True):
+    while True:
+        label, now, digit = [rng.choice((0xC0, 0x181, 0x106))], None, None
+        now = model.SET_OF[label[0]]
+        while len(label) < length:
+            if digit:
+                c = 0x179 if rng.random() < 0.2 else rng.choice(P("0123456789"))
+                digit = c == 0x179
+            elif now == "C" and rng.random() < 0.8:
+                c = rng.choice(P("0123456789"))
+                digit = True
+            else:
+                pool = sorted(model.NUMBER[now])
+                named = [x for x in pool if x > 0x7F]
+                c = rng.choice(named) if rng.random() < 0.3 else rng.choice(pool)
+                now = model.SET_OF.get(c, now)
+            label.append(c)
+        if not digit:
+            break
+    if not stay:
+        at = rng.randrange(1, length)
+        label[at] = rng.choice((0x7F, 0x20AC, 0x107, label[at - 1], 0xC0, 0x106, 0x181))
+    return label
+
+
+got = labels_table("c", "randomly", "one random label of each length from 2 to 40", [random_label(k) for k in range(2, 41)])
+assert all(a[0] == "accept" for _, a in got)
+RANDOM = got
+labels, k = [], 0
+while len(labels) < 30:
+    label = random_label(3 + k % 20, stay=False)
+    if model.encode(ROOM, label)[0] == "refuse":
+        labels.append(label)
+        k += 1
+labels_table("c", "randomlyWrong", "random labels with one code point spoiled, refused", labels)
+
+
+# labels whose check falls on a given number
+def with_check(start, wanted):
+    while True:
+        label = random_label(rng.randrange(2, 7))
+        symbols = model.parse(label)
+        if label[0] == start and model.check_of(symbols) == wanted:
+            return label
+
+
+got = labels_table("c", "checksOn", "labels whose check is 0, 1, 64, 95, 96, 99, 101 and 102, one for each START",
+                   [with_check(s, c) for c in (0, 1, 64, 95, 96, 99, 101, 102) for s in (0xC0, 0x181, 0x106)])
+
+# sweeps
+FAR = [0x7FF, 0x800, 0xD7FF, 0xE000, 0xFFFF, 0x10000, 0x10FFFF]
+SHOWN = {
+    "À": ("count 0 96 ++ points \"ĆŹźŻżŽƁ\"", list(range(96)) + P("ĆŹźŻżŽƁ")),
+    "Ɓ": ("count 32 95 ++ points \"À÷ĆŹźŻżŽ\"", list(range(32, 127)) + P("À÷ĆŹźŻżŽ")),
+    "Ć": ("points \"0123456789ÀŹƁ\"", P("0123456789ÀŹƁ")),
+    "Ć1": ("points \"0123456789Ź\"", P("0123456789Ź")),
+    "ÀĆ1Ź": ("points \"0123456789Ź\"", P("0123456789Ź")),
+    "": ("points \"ÀĆƁ\"", P("ÀĆƁ")),
+}
+sweeps = []
+for ahead, behind, place in (("", "A", 0), ("À", "", 1), ("Ɓ", "", 1), ("Ć", "", 1), ("Ć1", "", 2), ("ÀĆ1Ź", "2", 4)):
+    every = [c for c in range(0x110000) if not 0xD800 <= c <= 0xDFFF]
+    got = crate_many([P(ahead) + [c] + P(behind) for c in every])
+    near = [P(ahead) + [c] + P(behind) for c in range(SWEPT)] + [P(ahead) + [c] + P(behind) for c in FAR]
+    kept = [label[len(ahead)] for label, a in zip(near, crate_answers(near)) if a != refuse(3, place)]
+    assert kept == SHOWN[ahead][1] and all(c < SWEPT for c, g in zip(every, got) if g != "C")
+    sweeps.append("swept %s %s %d (%s)" % (text(P(ahead)), text(P(behind)), place, SHOWN[ahead][0]))
+table("c", "sweeps", "Sweep", """Every code point below 512 and the borders 7FF, 800, D7FF, E000, FFFF, 10000 and 10FFFF, put between two texts: those that are not refused 3 at
+that place, in their order. (The crate was run on all others up to 10FFFF too, and refuses each with Error::Character.)""", sweeps, each=SWEPT + len(FAR))
+states("sweeps-hold", "map passing sweeps ≡ map kept sweeps")
+
+# ================================================================ d. read
+
+title("d. read")
+PA, PB, PC = PATTERNS[103], PATTERNS[104], PATTERNS[105]
+
+labels = [a for a in RANDOM if a[1][1] in (2, 3, 4, 5, 6, 7, 9, 10, 12, 15, 18, 20)]
+entries, used = [], set()
+for label, answer in labels:
+    n, row = answer[1], answer[2]
+    if n in used:
+        continue
+    used.add(n)
+    s = "".join(map(str, row))
+    symbols = [PATTERNS.index(s[11 * i:11 * i + 11]) for i in range(n)]
+    entries.append(held_to("read", "rowOf %d %s" % (n, hexed(row)), row, n, accept(symbols), lambda a: plain_answer(a, listed)))
+examples_table("d", "readBack", "reading", "rows that the crate wrote, lent just the room; the symbols are the places of their blocks in the crate's `CHARS`", entries)
+
+
+def rows(*parts, stop=STOP):
+    """A row in blocks: a number is a pattern of CHARS, a text stands as it is."""
+    return " ".join([PATTERNS[p] if isinstance(p, int) else p for p in parts] + ([stop] if stop else []))
+
+
+def flip(block, i):
+    return block[:i] + "10"[int(block[i])] + block[i + 1:]
+
+
+def put(block, i, c):
+    return block[:i] + c + block[i + 1:]
+
+
+def reading(name, comment, cases):
+    entries = []
+    for row, room, answer in cases:
+        if isinstance(row, tuple):
+            shown, value = row
+        else:
+            shown, value = 'cellsOf "%s"' % row, [int(d) for d in row.replace(" ", "")]
+        entries.append(held_to("read", shown, value, room, answer, lambda a: plain_answer(a, listed)))
+    examples_table("d", name, "reading", comment, entries)
+
+
+NONE = "11000111010"   # the first eleven cells of the stop
+assert NONE not in PATTERNS
+ZERO, ONES = "0" * 11, "1" * 11
+reading("readLengths", "\"10\", by hand: a row has 11(n+1)+13 cells, 1 ≤ n ≤ 255; \"11\", the place of the first", [
+    (("[]", []), 255, refuse(10, 0)),
+    (("replicate 24 1", [1] * 24), 255, refuse(10, 24)),
+    (("replicate 34 0", [0] * 34), 255, refuse(10, 34)),
+    (("replicate 36 0", [0] * 36), 255, refuse(10, 36)),
+    (("replicate 47 1", [1] * 47), 255, refuse(10, 47)),
+    (("replicate 2829 1", [1] * 2829), 255, refuse(12, 0)),
+    (("replicate 2830 1", [1] * 2830), 255, refuse(10, 2830)),
+    (("replicate 2840 1", [1] * 2840), 255, refuse(10, 2840)),
+    (("replicate 34 2", [2] * 34), 0, refuse(10, 34)),
+    (("replicate 35 2", [2] * 35), 0, refuse(11, 0)),
+    (("replicate 35 255", [255] * 35), 255, refuse(11, 0)),
+    (("replicate 34 0 ++ (2 ∷ [])", [0] * 34 + [2]), 255, refuse(11, 34)),
+    (("replicate 2828 0 ++ (3 ∷ [])", [0] * 2828 + [3]), 255, refuse(11, 2828)),
+    (rows(103, 0)[:-1], 255, refuse(10, 34)),
+    (rows(103, 0) + "1", 255, refuse(10, 36)),
+    (rows(103, stop="") + " " + STOP, 255, refuse(10, 24)),
+    (rows(103, put(PATTERNS[0], 3, "2")), 255, refuse(11, 14)),
+    (rows(ZERO, put(PATTERNS[0], 10, "2")), 255, refuse(11, 21)),
+    (rows(33, 103, stop=put(STOP, 12, "2")), 255, refuse(11, 34)),
+    (rows(103, 0, stop=put(STOP, 0, "2")), 0, refuse(11, 22)),
+    (rows(put(PA, 0, "2"), put(PATTERNS[0], 5, "3")), 255, refuse(11, 0)),
+    (rows(103, 99, put(PATTERNS[99], 1, "2"), stop=put(STOP, 3, "2")), 255, refuse(11, 23)),
+])
+reading("readBlocks", "\"12\" and \"13\", by hand: the first block from the left that is no pattern, or not a START at 0, or above 102 after it; before 15, 14 and 5", [
+    (rows(flip(PA, 10), 0), 255, refuse(12, 0)),
+    (rows(ZERO, 0), 255, refuse(12, 0)),
+    (rows(ONES, 0), 255, refuse(12, 0)),
+    (rows(NONE, 0), 255, refuse(12, 0)),
+    (rows(PA[::-1], 0), 255, refuse(12, 0)),
+    (rows(103, flip(PATTERNS[0], 4)), 255, refuse(12, 1)),
+    (rows(103, NONE), 255, refuse(12, 1)),
+    (rows(105, flip(PATTERNS[12], 1), 14), 255, refuse(12, 1)),
+    (rows(105, 12, ZERO), 255, refuse(12, 2)),
+    (rows(105, 12, flip(PATTERNS[14], 9)), 255, refuse(12, 2)),
+    (rows(104, 33, 41, ONES, 45), 255, refuse(12, 3)),
+    (rows(104, 33, 41, 45, ONES), 0, refuse(12, 4)),
+    (rows(0, 0), 255, refuse(13, 0)),
+    (rows(102, 0), 255, refuse(13, 0)),
+    (rows(33, 41, 45), 255, refuse(13, 0)),
+    (rows(103, 103), 255, refuse(13, 1)),
+    (rows(103, 104), 255, refuse(13, 1)),
+    (rows(105, 103, 14), 255, refuse(13, 1)),
+    (rows(105, 12, 103), 255, refuse(13, 2)),
+    (rows(105, 12, 105), 255, refuse(13, 2)),
+    (rows(104, 33, 104, 45, 45), 255, refuse(13, 2)),
+    (rows(104, 33, 41, 45, 104), 0, refuse(13, 4)),
+    # both: the one further left
+    (rows(ZERO, 103), 255, refuse(12, 0)),
+    (rows(33, ZERO), 255, refuse(13, 0)),
+    (rows(105, ZERO, 103), 255, refuse(12, 1)),
+    (rows(105, 103, ZERO), 255, refuse(13, 1)),
+    (rows(104, 33, ZERO, 103, 45), 255, refuse(12, 2)),
+    (rows(104, 33, 103, ZERO, 45), 255, refuse(13, 2)),
+    # before 15
+    (rows(103, 103, stop=ZERO + "00"), 255, refuse(13, 1)),
+    (rows(103, ZERO, stop=ZERO + "00"), 255, refuse(12, 1)),
+    (rows(33, 0, stop=flip(STOP, 0)), 255, refuse(13, 0)),
+])
+cases = [(rows(103, 0, stop=flip(STOP, i)), 255, refuse(15, 22 + i)) for i in range(13)]
+cases += [(rows(105, 12, 14, stop=flip(STOP, i)), 255, refuse(15, 33 + i)) for i in (0, 6, 12)]
+cases += [(rows(103, 0, stop=ZERO + "00"), 255, refuse(15, 22)), (rows(103, 0, stop=ONES + "11"), 255, refuse(15, 24)),
+          (rows(103, 0, stop=PATTERNS[103] + "11"), 255, refuse(15, 25)), (rows(103, 0, stop=STOP[::-1]), 255, refuse(15, 25)),
+          (rows(103, 0, stop=flip(flip(STOP, 12), 5)), 255, refuse(15, 27)),
+          # the stop ahead of its place: it goes by the row's length, not by search
+          (rows(103, 0, stop="1100011101011 00000000000"), 255, refuse(12, 2)),
+          (rows(103, 0, stop="11000111010 1100011101011"), 255, refuse(12, 2)),
+          # before 14 and 5
+          (rows(103, 1, stop=flip(STOP, 12)), 255, refuse(15, 34)), (rows(105, 12, 15, stop=flip(STOP, 1)), 0, refuse(15, 34)),
+          (rows(104, 0, stop=flip(STOP, 11)), 255, refuse(15, 33))]
+reading("readStops", "\"15\", by hand: the place in the row of the first wrong cell of the last 13", cases)
+cases = [
+    (rows(103, 1), 255, refuse(14, 0)), (rows(103, 102), 255, refuse(14, 0)), (rows(104, 0), 255, refuse(14, 1)), (rows(105, 0), 255, refuse(14, 2)),
+    (rows(105, 12, 13), 255, refuse(14, 14)), (rows(105, 12, 15), 0, refuse(14, 14)), (rows(105, 13, 14), 255, refuse(14, 15)), (rows(104, 12, 14), 255, refuse(14, 13)),
+    (rows(103, 12, 14), 255, refuse(14, 12)), (rows(105, 99, 99), 255, refuse(14, 101)), (rows(104, 33, 41, 45, 44), 255, refuse(14, 45)),
+    (rows(104, 41, 33, 45, 45), 255, refuse(14, 37)), (rows(104, 33, 41, 45, 99, 12, 34, 86), 6, refuse(14, 87)), (rows(105, 102, 12, 24), 255, refuse(14, 25)),
+    # room
+    (rows(103, 0), 0, refuse(5, 1)), (rows(103, 0), 1, accept([103])), (rows(104, 1), 1, accept([104])), (rows(105, 2), 1, accept([105])), (rows(103, 0), 2829, accept([103])),
+    (rows(105, 12, 14), 1, refuse(5, 2)), (rows(105, 12, 14), 2, accept([105, 12])), (rows(105, 102, 12, 25), 2, refuse(5, 3)), (rows(105, 102, 12, 25), 3, accept([105, 102, 12])),
+    (rows(104, 33, 41, 45, 45), 3, refuse(5, 4)), (rows(104, 33, 41, 45, 45), 4, accept([104, 33, 41, 45])),
+    (rows(104, 33, 41, 45, 99, 12, 34, 87), 7, accept([104, 33, 41, 45, 99, 12, 34])), (rows(104, 98, 99), 2, accept([104, 98])), (rows(104, 95, 96), 2, accept([104, 95])),
+    (rows(103, 99, 12, 20), 3, accept([103, 99, 12])), (rows(103, 48, 42, 42, 17, 18, 19, 35, 54), 8, accept([103, 48, 42, 42, 17, 18, 19, 35])),
+]
+reading("readChecks", "\"14\" with the right check number, \"5\" with n, and what is accepted, by hand", cases)
+
+B103 = [104] + [33] * 103
+good = lambda s: [int(d) for m in s + [model.check_of(s)] for d in PATTERNS[m]] + [int(d) for d in STOP]
+assert model.read(255, good(A254)) == accept(A254)
+TABLES.append("""-- The longest row, put together of the crate's patterns, the check by arithmetic outside.
+unfoldable pub readLong : List Example
+readLong =
+    (cellsOf "%s" ++ (times 254 (cellsOf "%s") ++ cellsOf "%s %s") into 255 gives accept 255 (104 ∷ replicate 254 33)) ∷ []
+""" % (PB, PATTERNS[33], PATTERNS[LONG_C[0]], STOP))
+COUNTS.append(("d", "readLong", 1))
+states("readLong-hold", "map (asked reading) readLong ≡ map given readLong")
+
+# ================================================================ e. spell, scan, draw
+
+title("e. spell, scan and draw")
+LISTS = [
+    # list, what spell writes, what scan sends: by hand
+    ([103], "À", ""), ([104], "Ɓ", ""), ([105], "Ć", ""),
+    ([103, 0], "À ", " "), ([103, 33], "ÀA", "A"), ([103, 63], "À_", "_"), ([103, 64], "À\x00", "\x00"), ([103, 95], "À\x1f", "\x1f"),
+    ([103, 96], "ÀŻ", ""), ([103, 97], "Àź", ""), ([103, 98], "ÀŽ", ""), ([103, 99], "ÀĆ", ""), ([103, 100], "ÀƁ", ""), ([103, 101], "Àż", ""), ([103, 102], "ÀŹ", ""),
+    ([104, 0], "Ɓ ", " "), ([104, 33], "ƁA", "A"), ([104, 63], "Ɓ_", "_"), ([104, 64], "Ɓ`", "`"), ([104, 94], "Ɓ~", "~"), ([104, 95], "Ɓ÷", "\x7f"),
+    ([104, 96], "ƁŻ", ""), ([104, 97], "Ɓź", ""), ([104, 98], "ƁŽ", ""), ([104, 99], "ƁĆ", ""), ([104, 100], "Ɓż", ""), ([104, 101], "ƁÀ", ""), ([104, 102], "ƁŹ", ""),
+    ([105, 0], "Ć00", "00"), ([105, 5], "Ć05", "05"), ([105, 10], "Ć10", "10"), ([105, 33], "Ć33", "33"), ([105, 95], "Ć95", "95"), ([105, 96], "Ć96", "96"),
+    ([105, 98], "Ć98", "98"), ([105, 99], "Ć99", "99"), ([105, 100], "ĆƁ", ""), ([105, 101], "ĆÀ", ""), ([105, 102], "ĆŹ", ""),
+    # the set that a switch leads to, and 99 as a pair
+    ([105, 99, 99, 99], "Ć999999", "999999"), ([103, 99, 99], "ÀĆ99", "99"), ([104, 99, 99, 100, 99, 12], "ƁĆ99ƁĆ12", "9912"),
+    ([103, 100, 65], "ÀƁa", "a"), ([103, 100, 100, 65], "ÀƁża", "a"), ([103, 100, 101, 65], "ÀƁÀ\x01", "\x01"), ([103, 101, 65], "Àż\x01", "\x01"),
+    ([104, 101, 65], "ƁÀ\x01", "\x01"), ([104, 101, 101, 65], "ƁÀż\x01", "\x01"), ([104, 101, 100, 65], "ƁÀƁa", "a"), ([104, 100, 65], "Ɓża", "a"),
+    ([105, 100, 65], "ĆƁa", "a"), ([105, 101, 65], "ĆÀ\x01", "\x01"), ([105, 100, 100, 12], "ĆƁż,", ","), ([105, 101, 101, 12], "ĆÀż,", ","),
+    ([105, 100, 101, 99, 65], "ĆƁÀĆ65", "65"), ([105, 101, 100, 99, 65], "ĆÀƁĆ65", "65"), ([103, 99, 100, 101, 95], "ÀĆƁÀ\x1f", "\x1f"), ([103, 99, 100, 95], "ÀĆƁ÷", "\x7f"),
+    # Shift shifts nothing; function symbols send nothing
+    ([103, 98, 65], "ÀŽ\x01", "\x01"), ([104, 98, 65], "ƁŽa", "a"), ([103, 98, 99, 98], "ÀŽĆ98", "98"), ([103, 102, 33, 102], "ÀŹAŹ", "A"), ([104, 96, 65, 97], "ƁŻaź", "a"),
+    ([105, 102, 12], "ĆŹ12", "12"), ([105, 12, 102], "Ć12Ź", "12"), ([105, 102, 102, 12, 102, 34], "ĆŹŹ12Ź34", "1234"), ([105, 12, 102, 34], "Ć12Ź34", "1234"),
+    ([104, 102, 95, 99, 102, 95, 101, 95], "ƁŹ÷ĆŹ95À\x1f", "\x7f95\x1f"),
+    ([104, 33, 41, 45, 99, 12, 34], "ƁAIMĆ1234", "AIM1234"), ([103, 48, 42, 42, 17, 18, 19, 35], "ÀPJJ123C", "PJJ123C"),
+    ([105, 102, 0, 12, 34, 56, 78, 90, 12, 34, 56, 78, 100, 16], "ĆŹ00123456789012345678Ɓ0", "001234567890123456780"),
+]
+entries = []
+crate_rows = crate_many([P(x) for _, x, _ in LISTS])
+for (s, x, b), got in zip(LISTS, crate_rows):
+    row = [int(d) for d in got]
+    assert model.spell(len(x), s) == accept(P(x)) and model.scan(len(b), s) == accept(P(b)) and model.draw(len(row), s) == accept(row, len(s)), (s, x, b)
+    entries.append("(%s) spells %s scans %s draws %s" % (listed(s), text(P(x)), text(P(b)), hexed(row)))
+table("e", "lists", "Listed", """Symbol lists, what spell writes and what scan sends, by hand from document 01; the row is what the crate writes for the spelled label.
+Each job is lent just the room that it needs.""", entries, each=3)
+states("lists-hold", "map threeJobs lists ≡ map threeAnswers lists")
+
+bad = [
+    ("[]", [], 0, refuse(10, 0)), ("[]", [], 2829, refuse(10, 0)),
+    ("103 ∷ replicate 255 33", [103] + [33] * 255, 2829, refuse(10, 256)), ("replicate 256 106", [106] * 256, 0, refuse(10, 256)), ("replicate 300 0", [0] * 300, 2829, refuse(10, 300)),
+    ("0 ∷ []", [0], 2829, refuse(13, 0)), ("33 ∷ []", [33], 2829, refuse(13, 0)), ("99 ∷ []", [99], 0, refuse(13, 0)), ("102 ∷ []", [102], 2829, refuse(13, 0)),
+    ("106 ∷ []", [106], 2829, refuse(13, 0)), ("255 ∷ []", [255], 0, refuse(13, 0)), ("102 ∷ 103 ∷ []", [102, 103], 2829, refuse(13, 0)), ("106 ∷ 106 ∷ []", [106, 106], 2829, refuse(13, 0)),
+    ("103 ∷ 103 ∷ []", [103, 103], 2829, refuse(13, 1)), ("103 ∷ 104 ∷ 105 ∷ []", [103, 104, 105], 2829, refuse(13, 1)), ("105 ∷ 106 ∷ []", [105, 106], 0, refuse(13, 1)),
+    ("104 ∷ 255 ∷ []", [104, 255], 2829, refuse(13, 1)), ("104 ∷ 102 ∷ 103 ∷ []", [104, 102, 103], 2829, refuse(13, 2)), ("104 ∷ 33 ∷ 41 ∷ 105 ∷ 255 ∷ []", [104, 33, 41, 105, 255], 0, refuse(13, 3)),
+    ("105 ∷ 99 ∷ 98 ∷ 97 ∷ 106 ∷ []", [105, 99, 98, 97, 106], 2829, refuse(13, 4)),
+    ("104 ∷ replicate 253 33 ++ (103 ∷ [])", [104] + [33] * 253 + [103], 2829, refuse(13, 254)), ("0 ∷ replicate 254 33", [0] + [33] * 254, 0, refuse(13, 0)),
+    ("replicate 255 103", [103] * 255, 2829, refuse(13, 1)),
+]
+entries = []
+for shown, value, room, answer in bad:
+    for job in ("draw", "spell", "scan"):
+        e = held_to(job, shown, value, room, answer, lambda a: plain_answer(a, listed))
+    entries.append(e)
+examples_table("e", "badLists", "drawing spelling scanning", "\"10, 13, 5\", by hand, asked of all three jobs", entries)
+COUNTS[-1] = ("e", "badLists", 3 * len(bad))
+
+entries = []
+for s, room, answer in [
+    ([103], 0, refuse(5, 35)), ([103], 34, refuse(5, 35)), ([105, 12], 45, refuse(5, 46)), ([104, 33, 41, 45], 67, refuse(5, 68)),
+]:
+    entries.append(held_to("draw", listed(s), s, room, answer, lambda a: plain_answer(a, listed)))
+v = [104] + [33] * 254
+entries.append(held_to("draw", "104 ∷ replicate 254 33", v, 2828, refuse(5, 2829), lambda a: plain_answer(a, listed)))
+examples_table("e", "drawShort", "drawing", "room one short, by hand: 11(n+1)+13 cells", entries)
+entries = []
+for s, room, answer in [
+    ([103], 0, refuse(5, 1)), ([105], 0, refuse(5, 1)), ([105, 12], 2, refuse(5, 3)), ([105, 102], 1, refuse(5, 2)), ([104, 33, 41, 45], 3, refuse(5, 4)), ([103, 99, 12], 3, refuse(5, 4)),
+]:
+    entries.append(held_to("spell", listed(s), s, room, answer, lambda a: plain_answer(a, listed)))
+v = [105] + [0] * 254
+entries.append(held_to("spell", "105 ∷ replicate 254 0", v, 508, refuse(5, 509), lambda a: plain_answer(a, listed)))
+assert model.spell(509, v) == accept([0x106] + [48] * 508)
+entries.append("105 ∷ replicate 254 0 into 509 gives accept 509 (Ć ∷ replicate 508 48)")
+examples_table("e", "spellShort", "spelling", "room one short, by hand, and \"At most 1 + 2·254 = 509 code points\"", entries)
+entries = []
+for s, room, answer in [
+    ([103], 0, accept([])), ([103, 98, 102], 0, accept([])), ([105, 12], 1, refuse(5, 2)), ([105, 12], 0, refuse(5, 2)), ([104, 33, 41, 45], 2, refuse(5, 3)), ([104, 33, 102], 0, refuse(5, 1)),
+    ([104, 33, 102], 1, accept([65])),
+]:
+    entries.append(held_to("scan", listed(s), s, room, answer, lambda a: plain_answer(a, listed)))
+entries.append(held_to("scan", "105 ∷ replicate 254 0", v, 507, refuse(5, 508), lambda a: plain_answer(a, listed)))
+assert model.scan(508, v) == accept([48] * 508)
+entries.append("105 ∷ replicate 254 0 into 508 gives accept 508 (replicate 508 48)")
+examples_table("e", "scanShort", "scanning", "room one short, or none and none needed, by hand", entries)
+
+# ================================================================ f. the row record
+
+title("f. the row record")
+
+
+def by_hand(job, cases, form):
+    return [held_to(job, shown, value, room, answer, lambda a: plain_answer(a, form)) for shown, value, room, answer in cases]
+
+
+def shown_cells(t):
+    return 'cellsOf "%s"' % t, [int(d) for d in t.replace(" ", "")]
+
+
+def shown_bytes(t):
+    return 'bytesOf "%s"' % t, [int(b, 16) for b in t.split()]
+
+
+RA, RC = "01 01 D0 9B 33 1D 60", "01 02 D3 96 72 67 63 AC"
+BA, BC = shown_bytes(RA)[1], shown_bytes(RC)[1]
+CA, CC = "11010000 10011011 00110011 00011101 011", "11010011 10010110 01110010 01100111 01100011 101011"
+VA, VC = shown_cells(CA)[1], shown_cells(CC)[1]
+entries = by_hand("pack", [
+    (*shown_cells(CA), 7, accept(BA)), (*shown_cells(CA), 6, refuse(5, 7)), (*shown_cells(CA), 0, refuse(5, 7)), (*shown_cells(CA), 2829, accept(BA)),
+    (*shown_cells(CC), 8, accept(BC)), (*shown_cells(CC), 7, refuse(5, 8)),
+    # not readable, and packed all the same
+    ("replicate 35 0", [0] * 35, 7, accept(shown_bytes("01 01 00 00 00 00 00")[1])), ("replicate 35 1", [1] * 35, 7, accept(shown_bytes("01 01 FF FF FF FF E0")[1])),
+    ("replicate 34 0 ++ (1 ∷ [])", [0] * 34 + [1], 7, accept(shown_bytes("01 01 00 00 00 00 20")[1])), ("1 ∷ replicate 34 0", [1] + [0] * 34, 7, accept(shown_bytes("01 01 80 00 00 00 00")[1])),
+    (*shown_cells("00000001 00000010 00000100 00001000 000"), 7, accept(shown_bytes("01 01 01 02 04 08 00")[1])),
+    (*shown_cells("10101010 01010101 11110000 00001111 101"), 7, accept(shown_bytes("01 01 AA 55 F0 0F A0")[1])),
+    # n = 8: 112 cells, no spare bit
+    ("replicate 112 1", [1] * 112, 16, accept(shown_bytes("01 08" + " FF" * 14)[1])),
+    # 10, 11, 5
+    ("[]", [], 2829, refuse(10, 0)), ("replicate 24 1", [1] * 24, 2829, refuse(10, 24)), ("replicate 34 2", [2] * 34, 0, refuse(10, 34)), ("replicate 36 0", [0] * 36, 2829, refuse(10, 36)),
+    ("replicate 40 0", [0] * 40, 2829, refuse(10, 40)), ("replicate 2830 0", [0] * 2830, 2829, refuse(10, 2830)), ("replicate 2840 0", [0] * 2840, 2829, refuse(10, 2840)),
+    ("replicate 35 2", [2] * 35, 0, refuse(11, 0)), ("replicate 34 0 ++ (2 ∷ [])", [0] * 34 + [2], 0, refuse(11, 34)), ("replicate 46 1", [1] * 46, 0, refuse(5, 8)),
+    (*shown_cells("11010000 10011211 00110011 00011101 091"), 2829, refuse(11, 13)), ("255 ∷ replicate 34 7", [255] + [7] * 34, 7, refuse(11, 0)),
+    ("replicate 2829 0", [0] * 2829, 355, refuse(5, 356)),
+], lambda o: hexed_bytes(o))
+assert model.pack(356, [1] * 2829) == accept([1, 255] + [255] * 353 + [0xF8])
+entries.append("replicate 2829 1 into 356 gives accept 356 (1 ∷ 255 ∷ replicate 353 255 ++ (0xF8 ∷ []))")
+examples_table("f", "packings", "packing", "by hand from \"Row record\" and \"Pack: 10, 11, 5\"; the first rows are those of the label program, in eights", entries)
+
+
+def set_bits(record, value):
+    return record[:-1] + [record[-1] | value]
+
+
+def sb(record):
+    return shown_bytes(" ".join("%02X" % b for b in record))
+
+
+cases = [
+    (*sb(BA), 35, accept(VA)), (*sb(BA), 34, refuse(5, 35)), (*sb(BC), 46, accept(VC)), (*sb(BC), 45, refuse(5, 46)),
+]
+# each spare bit by itself, and all
+cases += [(*sb(set_bits(BA, b)), 2829, refuse(23, 6)) for b in (1, 2, 4, 8, 16, 31)] + [(*sb(set_bits(BC, b)), 2829, refuse(23, 7)) for b in (1, 2, 3)]
+cases += [(*sb(set_bits(BA, 1)), 0, refuse(23, 6))]
+# the lowest bit that is none
+cases += [(*shown_bytes("01 01 00 00 00 00 20"), 35, accept([0] * 34 + [1])), (*shown_bytes("01 01 80 00 00 00 00"), 35, accept([1] + [0] * 34)),
+          (*shown_bytes("01 01 FF FF FF FF E0"), 35, accept([1] * 35)), (*shown_bytes("01 01 FF FF FF FF FF"), 35, refuse(23, 6)),
+          (*shown_bytes("01 01 01 02 04 08 00"), 35, accept([int(d) for d in "00000001000000100000010000001000000"])),
+          (*shown_bytes("01 08" + " FF" * 14), 112, accept([1] * 112)), (*shown_bytes("01 08" + " FF" * 14), 111, refuse(5, 112)), (*shown_bytes("01 08" + " FF" * 15), 112, refuse(22, 16))]
+# 20, 21, 22
+cases += [("[]", [], 2829, refuse(20, 0)), ("0 ∷ []", [0], 0, refuse(20, 1)), ("2 ∷ []", [2], 2829, refuse(20, 1)),
+          (*sb([0] + BA[1:]), 35, refuse(21, 0)), (*sb([2] + BA[1:]), 35, refuse(21, 2)), (*sb([255] + BA[1:]), 0, refuse(21, 255)), (*sb([2, 0]), 35, refuse(21, 2)), (*sb([0, 0]), 35, refuse(21, 0)),
+          (*sb([3] + set_bits(BA, 1)[1:]), 35, refuse(21, 3)),
+          (*sb([1, 0, 0]), 35, refuse(22, 0)), (*sb([1, 0, 0, 0, 0]), 35, refuse(22, 0)), (*sb([1, 0, 255, 255, 255]), 0, refuse(22, 0)),
+          (*sb([1, 1]), 35, refuse(22, 7)), (*sb(BA[:-1]), 35, refuse(22, 7)), (*sb(BA + [0]), 35, refuse(22, 7)), (*sb(BA + [255]), 0, refuse(22, 7)),
+          (*sb([1, 2] + BA[2:]), 46, refuse(22, 8)), (*sb([1, 1] + BC[2:]), 46, refuse(22, 7)), (*sb(set_bits(BA[:-1], 1)), 0, refuse(22, 7)),
+          (*sb([1, 3]), 0, refuse(22, 10)), (*sb([1, 8]), 0, refuse(22, 16)), (*sb([1, 254]), 2829, refuse(22, 355)), (*sb([1, 255]), 2829, refuse(22, 356)),
+          ("1 ∷ 255 ∷ replicate 353 0", [1, 255] + [0] * 353, 2829, refuse(22, 356)), ("1 ∷ 255 ∷ replicate 355 0", [1, 255] + [0] * 355, 2829, refuse(22, 356)),
+          ("1 ∷ 255 ∷ replicate 354 0", [1, 255] + [0] * 354, 2828, refuse(5, 2829)), ("1 ∷ 255 ∷ replicate 353 0 ++ (4 ∷ [])", [1, 255] + [0] * 353 + [4], 2829, refuse(23, 355))]
+entries = by_hand("unpack", cases, lambda o: ("replicate %d %d" % (len(o), o[0])) if len(set(o)) == 1 else 'cellsOf "%s"' % "".join(map(str, o)))
+assert model.unpack(2829, [1, 255] + [255] * 353 + [0xF8]) == accept([1] * 2829)
+entries.append("1 ∷ 255 ∷ replicate 353 255 ++ (0xF8 ∷ []) into 2829 gives accept 2829 (replicate 2829 1)")
+examples_table("f", "unpackings", "unpacking", "by hand from \"Row record\" and \"Unpack: 20, 21, 22, 23, 5\": each spare bit, count 0, one byte short and one long, the versions 0, 2, 3 and 255", entries)
+
+# ================================================================ g. settle
+
+title("g. Ź inside a pair")
+MOVED = [("Ć1Ź2", "ĆŹ12"), ("Ć1ŹŹ2", "ĆŹŹ12"), ("Ć1ŹŹŹ2", "ĆŹŹŹ12"), ("ĆŹ1Ź2Ź", "ĆŹŹ12Ź"), ("Ć12Ź3Ź4", "Ć12ŹŹ34"), ("Ć1Ź23Ź4", "ĆŹ12Ź34"), ("Ć1ŹŹ23ŹŹŹ4", "ĆŹŹ12ŹŹŹ34"),
+         ("ÀĆ1Ź2", "ÀĆŹ12"), ("ÀAŹĆ9Ź9ÀŹA", "ÀAŹĆŹ99ÀŹA"), ("Ɓ1Ź2Ć1Ź2", "Ɓ1Ź2ĆŹ12"), ("Ć1Ź2Ɓ1Ź2", "ĆŹ12Ɓ1Ź2"), ("Ć1Ź2ÀĆ3Ź4", "ĆŹ12ÀĆŹ34"), ("Ć12345Ź6", "Ć1234Ź56"), ("Ć0Ź00Ź0", "ĆŹ00Ź00")]
+STILL = ["", "À", "Ć", "1Ź2", "1Ź2Ć34", "ĆŹ12", "Ć12", "Ć12Ź", "Ć12Ź34", "ĆŹŹ12ŹŹ", "À1Ź2", "Ɓ1Ź2", "ÀAŹ1Ź2", "Ć12Ɓ1Ź2", "Ć12À1Ź2", "ĆŹ", "ƁŽ1Ź2", "ĆƁ1Ź2", "ÀĆŹ1234Ź"]
+for x, y in MOVED:
+    assert model.settle(P(x)) == P(y) and model.encode(ROOM, P(x)) == model.encode(ROOM, P(y)) and model.encode(ROOM, P(x))[0] == "accept" and crate_many([P(x)]) == crate_many([P(y)])
+for x in STILL:
+    assert model.settle(P(x)) == P(x)
+table("g", "settling", "Settled", """By hand from "every Ź standing between the two digits of a set C pair is moved ahead of that pair". The crate writes one row for both labels of an
+entry. Digits outside set C are no pairs, and a Ź ahead of a pair or after it stays. Labels in which a first digit has no second are left out: the
+sentence says nothing of them, and encode refuses them.""",
+      ["%s becomes %s" % (text(P(x)), text(P(y))) for x, y in MOVED] + ["stays %s" % text(P(x)) for x in STILL], each=2)
+states("settling-hold", "map settles settling ≡ map settled settling")
+
+# ================================================================ h. the lent buffer
+
+title("h. the lent buffer")
+table("h", "buffers", "Buffer", """By hand from "An accepted call fills the front of its buffer and answers 0 with a number", "Bytes or numbers behind that are unchanged", "A refusal changes
+no lent memory": a job, its input, the buffer before, and then the number, the second number and the buffer after.""", [
+    'calls encoding (points "À") (replicate 37 7) 0 1 (cellsOf "11010000100110110011001100011101011" ++ (7 ∷ 7 ∷ []))',
+    'calls encoding (points "À") (replicate 35 9) 0 1 (cellsOf "11010000100110110011001100011101011")',
+    'calls encoding (points "À") (replicate 34 9) 5 35 (replicate 34 9)',
+    'calls encoding (points "Ć1") (4 ∷ 5 ∷ 6 ∷ []) 3 2 (4 ∷ 5 ∷ 6 ∷ [])',
+    'calls drawing (105 ∷ 2 ∷ []) (3 ∷ []) 5 46 (3 ∷ [])',
+    'calls reading (cellsOf "11010000100110110011001100011101011") (1 ∷ 2 ∷ 3 ∷ []) 0 1 (103 ∷ 2 ∷ 3 ∷ [])',
+    'calls reading (cellsOf "11010000100110110011001100011101010") (1 ∷ 2 ∷ 3 ∷ []) 15 34 (1 ∷ 2 ∷ 3 ∷ [])',
+    'calls spelling (105 ∷ 12 ∷ []) (8 ∷ 8 ∷ 8 ∷ 8 ∷ 8 ∷ []) 0 3 (Ć ∷ 49 ∷ 50 ∷ 8 ∷ 8 ∷ [])',
+    'calls scanning (105 ∷ 12 ∷ []) (8 ∷ 8 ∷ 8 ∷ 8 ∷ 8 ∷ []) 0 2 (49 ∷ 50 ∷ 8 ∷ 8 ∷ 8 ∷ [])',
+    'calls scanning (103 ∷ []) (8 ∷ 9 ∷ []) 0 0 (8 ∷ 9 ∷ [])',
+    'calls scanning (103 ∷ 106 ∷ []) (8 ∷ 9 ∷ []) 13 1 (8 ∷ 9 ∷ [])',
+    'calls packing (replicate 35 1) (0 ∷ 0 ∷ 0 ∷ 0 ∷ 0 ∷ 0 ∷ 0 ∷ 77 ∷ []) 0 7 (bytesOf "01 01 FF FF FF FF E0 4D")',
+    'calls unpacking (bytesOf "01 01 00 00 00 00 00") (replicate 36 5) 0 35 (replicate 35 0 ++ (5 ∷ []))',
+    'calls unpacking (bytesOf "01 00") (6 ∷ []) 22 0 (6 ∷ [])',
+], each=3)
+states("buffers-hold", "map called buffers ≡ map left buffers")
+
+# ================================================================ i. one block drawn over
+
+title("i. one block drawn over")
+entries = []
+for shown, s, i, m, answer in [
+    (None, [103], 0, 104, refuse(14, 1)), (None, [103], 0, 105, refuse(14, 2)), (None, [103], 0, 0, refuse(13, 0)), (None, [103], 0, 102, refuse(13, 0)), (None, [103], 1, 1, refuse(14, 0)),
+    (None, [103], 1, 102, refuse(14, 0)), (None, [103], 1, 103, refuse(13, 1)), (None, [105, 12], 0, 103, refuse(14, 12)), (None, [105, 12], 0, 104, refuse(14, 13)),
+    (None, [105, 12], 0, 14, refuse(13, 0)), (None, [105, 12], 1, 13, refuse(14, 15)), (None, [105, 12], 1, 102, refuse(14, 1)), (None, [105, 12], 1, 105, refuse(13, 1)),
+    (None, [105, 12], 2, 12, refuse(14, 14)), (None, [105, 12], 2, 105, refuse(13, 2)), (None, [104, 33, 41, 45], 2, 42, refuse(14, 47)), (None, [104, 33, 41, 45], 3, 0, refuse(14, 13)),
+    (None, [104, 33, 41, 45], 4, 104, refuse(13, 4)),
+    ("104 ∷ replicate 103 33", B103, 103, 65, ("accept", 104, "104 ∷ replicate 102 33 ++ (65 ∷ [])")), 
+    ("104 ∷ replicate 102 33", [104] + [33] * 102, 103, 65, refuse(14, 1)), ("104 ∷ replicate 206 33", [104] + [33] * 206, 206, 0, ("accept", 207, "104 ∷ replicate 205 33 ++ (0 ∷ [])")),
+]:
+    number = (s + [model.check_of(s)])[i]
+    cells = good(s)
+    cells[11 * i:11 * i + 11] = [int(d) for d in PATTERNS[m]]
+    got = model.read(255, cells)
+    assert number != m and got[:2] == answer[:2] and (got[0] == "refuse" and got == answer or got[2] == s[:i] + [m] + s[i + 1:]), (s, i, m, got)
+    entries.append("(%s) at %d drawn %d gives %s" % (shown or listed(s), i, m, "refuse %d %d" % answer[1:] if answer[0] == "refuse" else "accept %d (%s)" % answer[1:]))
+table("i", "redrawings", "Redrawn", """By hand: 13 where a START or a data number may not stand; else 14 with the check that the changed list would have; and at the data places 103 and 206,
+whose weight is 0 modulo 103, an acceptance.""", entries, each=2)
+states("redrawings-hold", "map ruled redrawings ≡ map twice redrawings")
+
+# ================================================================ the files
+
+HEAD = '''-- Examples whose expected values come from outside the definitions: from document 01 by hand, from the standard, from the crate when it is run.
+-- Where it says "by hand", a Python program written from document 01 alone gave the same. proofs/Against.antt holds the definitions to the tables,
+-- by computation. Assumes nothing.
+use Prim.Native.Nat.{ℕ, zero, suc, _+_, _-_, _*_, _/_, _%_}
+use Prim.Native.String.{String}
+use mathlib.Core.Bool.{Bool, true, false, _&&_, not}
+use mathlib.Core.List.{List, [], _∷_, _++_}
+use lib.Dec.{ltb, eqb}
+use lib.ListN.{length, take, drop, replicate}
+use Rattle.paper.specs.Answers.{if_then_else_, Answer, refuse, accept, number, second, after}
+use Rattle.paper.specs.Points.{points}
+use Rattle.paper.specs.Iso15417.{check, count, row}
+use Rattle.paper.specs.Crate.{À, Ɓ, Ć, Parsed, symbols, parse}
+use Rattle.paper.specs.Settle.{settle-computes, settle, inside}
+use Rattle.paper.specs.Chars.{chars-computes}
+use Rattle.paper.specs.Jobs.{Job, encoding, drawing, reading, spelling, scanning, packing, unpacking, answer, encode, draw, read, spell, scan}
+use Rattle.paper.specs.Labels.{Label, _⇒_}
+use Rattle.paper.specs.Rules.{rules-computes}
+use Rattle.paper.specs.Damage.{damage-computes, redrawn, verdict}
+
+-- ---- how the tables are written
+
+-- the digits 0 to 9 and A to F as numbers; blanks are left out
+unfoldable pub digit16 : ℕ → List ℕ
+digit16 c = if eqb c 32 then [] else if ltb c 65 then (c - 48) ∷ [] else ((c - 55) ∷ [])
+
+unfoldable pub digits16 : List ℕ → List ℕ
+digits16 [] = []
+digits16 (c ∷ cs) = digit16 c ++ digits16 cs
+
+-- cells one by one
+unfoldable pub cellsOf : String → List ℕ
+cellsOf text = digits16 (points text)
+
+-- cells four to a digit, the first in the top bit: a row of n symbols, and an acceptance with it
+unfoldable pub fours : List ℕ → List ℕ
+fours [] = []
+fours (d ∷ ds) = (d / 8) ∷ (d / 4 % 2) ∷ (d / 2 % 2) ∷ (d % 2) ∷ fours ds
+
+unfoldable pub rowOf : ℕ → String → List ℕ
+rowOf n text = take (11 * n + 24) (fours (cellsOf text))
+
+unfoldable pub accepted : ℕ → String → Answer
+accepted n text = accept n (rowOf n text)
+
+-- bytes, two digits each
+unfoldable pub pairs16 : List ℕ → List ℕ
+pairs16 [] = []
+pairs16 (a ∷ []) = []
+pairs16 (a ∷ b ∷ ds) = (16 * a + b) ∷ pairs16 ds
+
+unfoldable pub bytesOf : String → List ℕ
+bytesOf text = pairs16 (cellsOf text)
+
+-- so many blocks of eleven cells, and lists one after the other
+unfoldable pub elevens : ℕ → List ℕ → List (List ℕ)
+elevens zero cs = []
+elevens (suc n) cs = take 11 cs ∷ elevens n (drop 11 cs)
+
+unfoldable pub joined : List (List ℕ) → List ℕ
+joined [] = []
+joined (xs ∷ xss) = xs ++ joined xss
+
+-- a list so many times
+unfoldable pub times : ℕ → List ℕ → List ℕ
+times zero xs = []
+times (suc n) xs = xs ++ times n xs
+
+-- ---- what is compared: in each entry of a table, what the definitions say with what the entry says
+
+infix 15 _into_gives_
+infix 15 _is_checked_sends_
+infix 15 _spells_scans_draws_
+infix 15 _becomes_
+infix 15 _at_drawn_gives_
+-- a job's input, how many elements the lent buffer has, the answer
+pub data Example : Type 0 where
+  _into_gives_ : List ℕ → ℕ → Answer → Example
+
+unfoldable pub asked : Job → Example → Answer
+asked j (x into room gives a) = answer j room x
+
+unfoldable pub given : Example → Answer
+given (x into room gives a) = a
+
+-- a label, its symbols, its check, and what a scanner sends for it
+pub data Published : Type 0 where
+  _is_checked_sends_ : String → List ℕ → ℕ → String → Published
+
+unfoldable pub parsedAs : Published → Parsed × ℕ × Answer
+parsedAs (x is s checked c sends b) = (parse (points x), check s, scan (length (points b)) s)
+
+unfoldable pub printedAs : Published → Parsed × ℕ × Answer
+printedAs (x is s checked c sends b) = (symbols s, c, accept (length (points b)) (points b))
+
+-- a text, a text behind it, a place, and those of the code points tried that are not refused 3 at that place when put between the two
+pub data Sweep : Type 0 where
+  swept : String → String → ℕ → List ℕ → Sweep
+
+unfoldable pub tried : List ℕ
+tried = count 0 512 ++ (0x7FF ∷ 0x800 ∷ 0xD7FF ∷ 0xE000 ∷ 0xFFFF ∷ 0x10000 ∷ 0x10FFFF ∷ [])
+
+unfoldable pub passesAt : ℕ → Answer → Bool
+passesAt place a = not (eqb (number a) 3 && eqb (second a) place)
+
+unfoldable pub those : (ℕ → Bool) → List ℕ → List ℕ
+those keeps [] = []
+those keeps (c ∷ cs) = (if keeps c then c ∷ [] else []) ++ those keeps cs
+
+unfoldable pub passing : Sweep → List ℕ
+passing (swept ahead behind place found) = those (λ c. passesAt place (encode 2829 (points ahead ++ (c ∷ points behind)))) tried
+
+unfoldable pub kept : Sweep → List ℕ
+kept (swept ahead behind place found) = found
+
+-- a symbol list, the label that spells it, what a scanner sends for it, and its row
+pub data Listed : Type 0 where
+  _spells_scans_draws_ : List ℕ → String → String → String → Listed
+
+unfoldable pub threeJobs : Listed → List Answer
+threeJobs (s spells x scans b draws r) = spell (length (points x)) s ∷ scan (length (points b)) s ∷ draw (11 * length s + 24) s ∷ []
+
+unfoldable pub threeAnswers : Listed → List Answer
+threeAnswers (s spells x scans b draws r) =
+    accept (length (points x)) (points x) ∷ accept (length (points b)) (points b) ∷ accepted (length s) r ∷ []
+
+-- a label with a Ź inside a pair and the label that it becomes when each is moved ahead of its pair; a label with none, which stays
+pub data Settled : Type 0 where
+  _becomes_ : String → String → Settled
+  stays : String → Settled
+
+unfoldable pub settles : Settled → Bool × List ℕ
+settles (x becomes y) = (inside (points x), settle (points x))
+settles (stays x) = (inside (points x), settle (points x))
+
+unfoldable pub settled : Settled → Bool × List ℕ
+settled (x becomes y) = (true, points y)
+settled (stays x) = (false, points x)
+
+-- a symbol list, a block of its row, the number that is drawn over it, and what read answers then; said by the rule, and read off the row
+pub data Redrawn : Type 0 where
+  _at_drawn_gives_ : List ℕ → ℕ → ℕ → Answer → Redrawn
+
+unfoldable pub ruled : Redrawn → List Answer
+ruled (s at i drawn m gives a) = verdict s i m ∷ read 255 (redrawn i m (row s)) ∷ []
+
+unfoldable pub twice : Redrawn → List Answer
+twice (s at i drawn m gives a) = a ∷ a ∷ []
+
+-- a job, its input and the buffer lent to it; then the answer number, the second number and the buffer
+pub data Buffer : Type 0 where
+  calls : Job → List ℕ → List ℕ → ℕ → ℕ → List ℕ → Buffer
+
+unfoldable pub gave : Answer → List ℕ → ℕ × ℕ × List ℕ
+gave a buf = (number a, second a, after a buf)
+
+unfoldable pub called : Buffer → ℕ × ℕ × List ℕ
+called (calls j x buf k m out) = gave (answer j (length buf) x) buf
+
+unfoldable pub left : Buffer → ℕ × ℕ × List ℕ
+left (calls j x buf k m out) = (k, m, out)
+
+'''
+
+HELPERS = [line.split()[2] for line in HEAD.split("\n") if line.startswith("unfoldable pub ")]
+NAMES = [t.split("unfoldable pub ")[k].split()[0] for t in TABLES for k in range(1, t.count("unfoldable pub ") + 1)]
+TAIL = """-- what a proof by computation names on its `unfolding` line: it opens every definition above
+unfoldable pub examples-computes : Unit {0}
+unfolding %s %s settle-computes chars-computes rules-computes damage-computes
+examples-computes = tt
+""" % (" ".join(HELPERS), " ".join(NAMES))
+
+PROOFS = """-- The definitions meet every example, by computation.
+-- Assumes nothing.
+use mathlib.Core.Path.{_≡_, refl}
+use mathlib.Core.List.{map}
+use Rattle.paper.specs.Iso15417.{cells, count, stop}
+use Rattle.paper.specs.Chars.{chars}
+use Rattle.paper.specs.Rules.{runs, barCells}
+use Rattle.paper.specs.Jobs.{encoding, drawing, reading, spelling, scanning, packing, unpacking}
+use Rattle.paper.specs.Labels.{answered, expected}
+%s
+"""
+used = ["examples-computes"] + [n for n in HELPERS + NAMES if any(n in st.replace("(", "").replace(")", "").split() for _, st in STATEMENTS)]
+lines = textwrap.wrap(", ".join(used), 120, break_on_hyphens=False)
+PROOFS = PROOFS % "\n".join("use Rattle.paper.specs.Examples.{%s}" % line.rstrip(",") for line in lines)
+for name, statement in STATEMENTS:
+    PROOFS += "\npub %s : %s\nunfolding examples-computes%s\n%s = refl\n" % (name, statement, " answered expected" if "answered" in statement else "", name)
+
+if __name__ == "__main__":
+    for where, body in ((("specs", "Examples.antt"), HEAD + "\n".join(TABLES) + "\n" + TAIL), (("proofs", "Against.antt"), PROOFS)):
+        with open(os.path.join(REPOSITORY, "crates", "paper", *where), "w", encoding="utf-8") as f:
+            f.write(body)
+    print("\n".join("%s %-18s %d" % c for c in COUNTS))
+    print(sum(c for _, n, c in COUNTS if n != "sweeps"), "and", sum(c for _, n, c in COUNTS if n == "sweeps"), "swept")
