@@ -1,5 +1,6 @@
 -- Demand 3's sentence on inputs: "every Ź standing between the two digits of a set C pair is moved ahead of that pair".
--- Said of code points alone; the parser is not asked. Assumes nothing.
+-- Said of code points alone; the parser is not asked. Where a first digit finds no second, the input is refused; a Ź behind such a digit goes ahead
+-- of it too. Assumes nothing.
 use Prim.Native.Nat.{ℕ, _+_}
 use mathlib.Core.Bool.{Bool, false, _||_}
 use mathlib.Core.List.{List, [], _∷_, _++_}
