@@ -30,7 +30,7 @@ def ask(job, room, values, want=None):
     else:
         number, second, buffer = 0, got[1], got[2] + [FULL] * (room - len(got[2]))
     asked.append(" ".join([job, "%X" % room] + ["%X" % v for v in values]))
-    cells = "".join(" %X" % v for v in buffer) if job == "S" else " " + "".join("%02X" % v for v in buffer)
+    cells = "".join(" %x" % v for v in buffer) if job == "S" else " " + "".join("%02x" % v for v in buffer)
     answered.append("%d %d%s" % (number, second, cells))
 
 

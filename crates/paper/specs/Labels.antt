@@ -16,7 +16,6 @@ pub data Label : Type 0 where
 
 infix 15 _⇒_
 infix 15 _also_⇒_
-
 -- "symbol 103, check 0": accepted with these symbols, the row drawn from them and this check number
 unfoldable pub symbols : List ℕ → ℕ → Answer
 symbols s c = accept (length s) (cells (s ++ (c ∷ [])) ++ stop)

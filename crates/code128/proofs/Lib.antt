@@ -1,0 +1,5 @@
+pub mod Encodes
+pub mod Parsing
+pub mod Rows
+pub mod Spans
+pub mod Sums

@@ -1,0 +1,199 @@
+// Code 128 after `src/sym/code128.rs` of barcoders 2.0.0: the table, the character sets, the check.
+ghost use mathlib.Core.Path.{_≡_};
+ghost use Prim.Native.Nat.{_<_, _≤_};
+ghost use lib.ListN.{length, take};
+ghost use lib.Seq.{sets};
+ghost use Rattle.paper.specs.Answers.{accept, into, Gave};
+ghost use Rattle.paper.specs.Iso15417.{check, next, row};
+ghost use Rattle.paper.specs.Crate.{spans, numberIn};
+ghost use Rattle.paper.specs.Jobs.{SymbolList, encode, draw};
+ghost use Rattle.helpers.specs.Numbers.{numberOf, secondOf};
+ghost use Rattle.code128.specs.Sets.{setOf, named, startOf, numbered};
+use helpers::Answer;
+use helpers::Refusal;
+use parse::Parsed;
+
+pub mod chars;
+mod numbers;
+mod parse;
+mod unicode;
+
+// Stop sequence.
+pub const STOP: [u8; 11] = [1, 1, 0, 0, 0, 1, 1, 1, 0, 1, 0];
+
+// Termination sequence.
+pub const TERM: [u8; 2] = [1, 1];
+
+// The three character sets, and `None` before the START.
+pub enum CharacterSet {
+    A,
+    B,
+    C,
+    None,
+}
+
+// What a code point is in a set: a symbol's number, or nothing.
+pub enum Lookup {
+    Unit(u8),
+    Nothing,
+}
+
+impl CharacterSet {
+    // The STARTs of the sets.
+    pub const START_A: u8 = 103;
+
+    pub const START_B: u8 = 104;
+
+    pub const START_C: u8 = 105;
+
+    // The set that a code point names: À, Ɓ or Ć.
+    pub fn from_char(c: u32) -> CharacterSet
+        ensures { λ r. ⌜ setOf r ≡ named c ⌝ }
+    {
+        match c {
+            0xC0 => CharacterSet::A,
+            0x181 => CharacterSet::B,
+            0x106 => CharacterSet::C,
+            _ => CharacterSet::None,
+        }
+    }
+
+    // The number of the set's START, 0 for `None`.
+    pub fn index(self) -> u8
+        ensures { λ r. ⌜ r ≡ startOf (setOf self) ⌝ }
+    {
+        match self {
+            CharacterSet::A => Self::START_A,
+            CharacterSet::B => Self::START_B,
+            CharacterSet::C => Self::START_C,
+            CharacterSet::None => 0,
+        }
+    }
+
+    // The number of a code point in the set; before the START the three names of the sets alone have one.
+    pub fn lookup(self, c: u32) -> Lookup
+        ensures { λ r. ⌜ numbered r ≡ numberIn (spans (setOf self)) c ⌝ }
+    {
+        match self {
+            CharacterSet::A => numbers::in_a(c),
+            CharacterSet::B => numbers::in_b(c),
+            CharacterSet::C => numbers::in_c(c),
+            CharacterSet::None => numbers::in_none(c),
+        }
+    }
+
+    // The set after a symbol: the STARTs, and the switches Code C 99, Code B 100, Code A 101. In set C 99 is a pair.
+    pub fn next(self, m: u8) -> CharacterSet
+        ensures { λ r. ⌜ setOf r ≡ next (setOf self) m ⌝ }
+    {
+        match self {
+            CharacterSet::A => match m {
+                99 => CharacterSet::C,
+                100 => CharacterSet::B,
+                _ => CharacterSet::A,
+            },
+            CharacterSet::B => match m {
+                99 => CharacterSet::C,
+                101 => CharacterSet::A,
+                _ => CharacterSet::B,
+            },
+            CharacterSet::C => match m {
+                100 => CharacterSet::B,
+                101 => CharacterSet::A,
+                _ => CharacterSet::C,
+            },
+            CharacterSet::None => match m {
+                103 => CharacterSet::A,
+                104 => CharacterSet::B,
+                105 => CharacterSet::C,
+                _ => CharacterSet::None,
+            },
+        }
+    }
+}
+
+// The check of the first 256 numbers: a symbol list has no more. The START weighs 1, and the number at place i weighs i.
+pub fn checksum_value(symbols: &[u8]) -> u8
+    ensures { λ r. ⌜ r ≡ check (take 256 (now (symbols .entry))) ⌝ }
+{
+    let n = helpers::shorter(symbols.len(), 256);
+    if n < 1 {
+        return 0;
+    }
+    let mut sum = wide(symbols[0]);
+    let mut i: usize = 1;
+    while i < n {
+        sum += (i as u32) * wide(symbols[i]);
+        i += 1;
+    }
+    (sum % 103) as u8
+}
+
+fn wide(x: u8) -> u32
+    ensures { λ r. ⌜ (r ≡ x) × (r < 256) ⌝ }
+{
+    x as u32
+}
+
+// Writes `slice` into `out` from place `at`, as far as `out` reaches.
+fn join_at(out: &mut [u8], at: usize, slice: &[u8])
+    requires { ⌜ at ≤ length (now out) ⌝ }
+    ensures { λ _. ⌜ now (out .exit) ≡ sets (now (out .entry)) at (now (slice .entry)) ⌝ }
+{
+    helpers::join_slices(&mut out[at..], slice);
+}
+
+// The row of a symbol list, where there is room: the payload, the check, the stop.
+fn write_row(symbols: &[u8], out: &mut [u8]) -> Answer
+    requires { ⌜ SymbolList (now symbols) ⌝ }
+    ensures { λ r. ⌜ Gave (into (length (now (out .entry))) (accept (length (now (symbols .entry))) (row (now (symbols .entry))))) (numberOf r) (secondOf r) (now (out .entry)) (now (out .exit)) ⌝ }
+{
+    let n = symbols.len();
+    let payload = 11 * n;
+    let end = payload + 24;
+    if out.len() < end {
+        return Answer::Refused(Refusal::Room, end);
+    }
+    let table = chars::table();
+    let check = 11 * (checksum_value(symbols) as usize);
+    let next = check + 11;
+    helpers::join_iters(out, &table, symbols);
+    join_at(out, payload, &table[check..next]);
+    join_at(out, payload + 11, &STOP);
+    join_at(out, payload + 22, &TERM);
+    Answer::Done(n)
+}
+
+// Draw: a symbol list to a row.
+pub fn draw(symbols: &[u8], out: &mut [u8]) -> Answer
+    ensures { λ r. ⌜ Gave (draw (length (now (out .entry))) (now (symbols .entry))) (numberOf r) (secondOf r) (now (out .entry)) (now (out .exit)) ⌝ }
+{
+    let vetted = helpers::vet(symbols);
+    let Answer::Done(_) = vetted else {
+        return vetted;
+    };
+    write_row(symbols, out)
+}
+
+// Encode: code points to a row.
+pub fn encode(text: &[u32], out: &mut [u8]) -> Answer
+    ensures { λ r. ⌜ Gave (encode (length (now (out .entry))) (now (text .entry))) (numberOf r) (secondOf r) (now (out .entry)) (now (out .exit)) ⌝ }
+{
+    let at = unicode::first_no_scalar(text);
+    if at < text.len() {
+        return Answer::Refused(Refusal::Scalar, at);
+    }
+    if !unicode::has_two_bytes(text) {
+        return Answer::Refused(Refusal::Length, 0);
+    }
+    let mut list = [0u8; 255];
+    match parse::parse(text, &mut list) {
+        Parsed::Stops(place) => Answer::Refused(Refusal::Character, place),
+        Parsed::Symbols(n) => {
+            if 255 < n {
+                return Answer::Refused(Refusal::Symbols, n);
+            }
+            write_row(&list[0..n], out)
+        }
+    }
+}

@@ -1,0 +1,4 @@
+pub mod First
+pub mod Joined
+pub mod Numbers
+pub mod Vetted

@@ -1,0 +1,154 @@
+// Read: a row of cells back to the symbol list that it was drawn from.
+ghost use Prim.Native.Nat.{_+_, _*_, _<_, _≤_};
+ghost use mathlib.Core.Path.{_≡_};
+ghost use mathlib.Core.List.{[]};
+ghost use lib.ListN.{length, take, drop};
+ghost use Rattle.paper.specs.Answers.{accept, _then_, Gave};
+ghost use Rattle.paper.specs.Chars.{chars};
+ghost use Rattle.paper.specs.Iso15417.{found};
+ghost use Rattle.paper.specs.Jobs as Paper;
+ghost use Rattle.paper.specs.Jobs.{fitsAt, blocksFrom, stopsRight};
+ghost use Rattle.helpers.specs.Numbers.{numberOf, secondOf, tells};
+ghost use Rattle.reader.specs.Parts.{looked, walked, stopAsked, checkAsked, Judged};
+use helpers::Answer;
+use helpers::Refusal;
+
+// What a block of eleven cells is: the pattern of a symbol, or none of the 106.
+enum Found {
+    Symbol(u8),
+    Nothing,
+}
+
+// Looks up the eleven cells from place `at` on in the table, pattern by pattern and cell by cell.
+fn find(row: &[u8], at: usize, table: &[u8]) -> Found
+    requires { ⌜ (at + 11 ≤ length (now row)) × (now table ≡ chars) ⌝ }
+    ensures { λ r. ⌜ looked r ≡ found (take 11 (drop at (now (row .entry)))) ⌝ }
+{
+    let mut s: usize = 0;
+    'search: loop {
+        if s == 106 {
+            break 'search Found::Nothing;
+        }
+        let mut j: usize = 0;
+        'cells: loop {
+            if j == 11 {
+                break 'search Found::Symbol(s as u8);
+            }
+            if row[at + j] != table[11 * s + j] {
+                break 'cells;
+            }
+            j += 1;
+        }
+        s += 1;
+    }
+}
+
+// Whether number `m` may stand at block `b`: a START at block 0, data and the check after it.
+fn fits(b: usize, m: u8) -> bool
+    ensures { λ r. ⌜ r ≡ fitsAt b m ⌝ }
+{
+    if 0 < b {
+        return m <= 102;
+    }
+    if m < 103 {
+        return false;
+    }
+    m <= 105
+}
+
+// Looks up the first `count` blocks, each once, and stores their numbers; refuses 12 or 13 at the first wrong one.
+fn blocks(row: &[u8], count: usize, list: &mut [u8]) -> Answer
+    requires { ⌜ (11 * count ≤ length (now row)) × (count ≤ length (now list)) ⌝ }
+    ensures { λ r. ⌜ walked count r (now (list .exit)) ≡ blocksFrom count 0 (now (row .entry)) ⌝ }
+{
+    let table = code128::chars::CHARS;
+    let mut b: usize = 0;
+    while b < count {
+        let Found::Symbol(m) = find(row, 11 * b, &table) else {
+            return Answer::Refused(Refusal::Pattern, b);
+        };
+        if !fits(b, m) {
+            return Answer::Refused(Refusal::Place, b);
+        }
+        list[b] = m;
+        b += 1;
+    }
+    Answer::Done(count)
+}
+
+// Compares the row from place `at` on with `cells`, and answers the place behind them; refuses 15 at the first wrong cell.
+fn compare(row: &[u8], at: usize, cells: &[u8]) -> Answer
+    requires { ⌜ at + length (now cells) ≤ length (now row) ⌝ }
+    ensures { λ r. ⌜ tells r ≡ (stopsRight at (now (cells .entry)) (drop at (now (row .entry))) then accept (at + length (now (cells .entry))) []) ⌝ }
+{
+    let mut j: usize = 0;
+    while j < cells.len() {
+        if row[at + j] != cells[j] {
+            return Answer::Refused(Refusal::Stop, at + j);
+        }
+        j += 1;
+    }
+    Answer::Done(at + j)
+}
+
+// Compares the last 13 cells with the stop, the cells of `STOP` and of `TERM`: the row's length says where it stands.
+fn stops(row: &[u8]) -> Answer
+    requires { ⌜ 13 ≤ length (now row) ⌝ }
+    ensures { λ r. ⌜ tells r ≡ (stopAsked (now (row .entry)) then accept (length (now (row .entry))) []) ⌝ }
+{
+    let first = compare(row, row.len() - 13, &code128::STOP);
+    let Answer::Done(next) = first else {
+        return first;
+    };
+    compare(row, next, &code128::TERM)
+}
+
+// Holds the number behind the first `n` of the list against their check; refuses 14 with the right one.
+fn checks(list: &[u8], n: usize) -> Answer
+    requires { ⌜ (n < length (now list)) × (n ≤ 255) ⌝ }
+    ensures { λ r. ⌜ tells r ≡ (checkAsked (now (list .entry)) n then accept n []) ⌝ }
+{
+    let drawn = list[n];
+    let right = code128::checksum_value(&list[0..n]);
+    if drawn != right {
+        return Answer::Refused(Refusal::Check, right as usize);
+    }
+    Answer::Done(n)
+}
+
+// All tests of read but that of the room, told in their order: 10, 11, 12 and 13, 15, 14. The symbols go to the front of `list`.
+fn judge(row: &[u8], list: &mut [u8]) -> Answer
+    requires { ⌜ 256 ≤ length (now list) ⌝ }
+    ensures { λ r. ⌜ Judged (now (row .entry)) r (now (list .exit)) ⌝ }
+{
+    let shape = helpers::shape(row);
+    let Answer::Done(n) = shape else {
+        return shape;
+    };
+    let walk = blocks(row, n + 1, list);
+    let Answer::Done(_) = walk else {
+        return walk;
+    };
+    let end = stops(row);
+    let check = checks(list, n);
+    let Answer::Done(_) = end else {
+        return end;
+    };
+    check
+}
+
+// Read: the symbols of a row go to the front of `out`, once all tests have passed.
+pub fn read(row: &[u8], out: &mut [u8]) -> Answer
+    ensures { λ r. ⌜ Gave (Paper.read (length (now (out .entry))) (now (row .entry))) (numberOf r) (secondOf r) (now (out .entry)) (now (out .exit)) ⌝ }
+{
+    let mut list = [0u8; 256];
+    let answer = judge(row, &mut list);
+    let Answer::Done(n) = answer else {
+        return answer;
+    };
+    if out.len() < n {
+        return Answer::Refused(Refusal::Room, n);
+    }
+    helpers::join_slices(out, &list[0..n]);
+    Answer::Done(n)
+}

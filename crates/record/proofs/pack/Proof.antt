@@ -1,0 +1,81 @@
+-- `record::pack` meets its contract: the tests of a row, the room, the head, the bytes.
+-- Assumes nothing.
+use Prim.Native.Nat.{_+_, _/_}
+use mathlib.Core.Path.{_≡_, _∙_}
+use mathlib.Core.List.{[]}
+use native.Mathlib.Omega.{arith}
+use borrow.Author.Needs.{needs}
+use lib.ListN.{length, length-set}
+use Rattle.paper.specs.Answers.{accept}
+use Rattle.paper.proofs.Bytes.{length-bytes}
+use Rattle.helpers.specs.Numbers.{refusalNumber}
+use Rattle.helpers.specs.Vetted.{shaped}
+use Rattle.helpers.specs.declared.Refusal.the-variants.{Room}
+use Rattle.helpers.proofs.Gives.{refused, stored, handed-on, told-refused, told-done, row-proper}
+use Rattle.record.proofs.Answering.{pack-refused, pack-room, pack-done}
+use Rattle.record.proofs.pack.Statement.{statement}
+use Rattle.record.proofs.pack.Tie as tie
+
+-- what is known of the row behind the tests
+known : (v : tie.After-shaped) → shaped (v .before .before .before .before .before .args .row .now) ≡ accept (v .shaped .given .0 .0) []
+known v = told-done (v .shaped .given .1) (v .before .before .shape .ensures)
+
+shape-requires : tie.Need-shape-requires
+shape-requires c κs = search needs
+
+enum-known-shaped : tie.Need-enum-known-shaped
+enum-known-shaped c = search needs
+
+enum-told : tie.Need-enum-told
+enum-told c = search needs
+
+returns : tie.Need-returns
+returns c = handed-on (c .enum-told .given .1) (pack-refused _ _ _ _ (told-refused (c .enum-told .given .1) (c .before .before .shape .ensures)))
+
+add-needed : tie.Need-add-needed
+add-needed c = search needs
+
+add-needed-2 : tie.Need-add-needed-2
+add-needed-2 c = search needs
+
+returns-2 : tie.Need-returns-2
+unfolding refusalNumber
+returns-2 c = refused Room _ (pack-room _ _ _ (known (c .before .before)) (omega arith))
+
+slice-write-out : tie.Need-slice-write-out
+slice-write-out c = search needs
+
+cast-out : tie.Need-cast-out
+cast-out c = let row = row-proper _ _ (known (c .before .before)) in omega arith
+
+slice-write-out-2 : tie.Need-slice-write-out-2
+slice-write-out-2 c = simp length-set (omega arith)
+
+put-bytes-requires : tie.Need-put-bytes-requires
+put-bytes-requires c κs = (simp length-set (omega arith), row-proper _ _ (known (c .before .before .before)) .two-colours)
+
+same-length : tie.Need-same-length
+same-length c = c .before .before .put-bytes .kept .1 .0 ∙ simp length-set
+
+returns-3 : tie.Need-returns-3
+returns-3 c =
+    let row = c .before .before .before .before .before .before .before .before .before .before .before .args .row .now in
+    stored _ _ (pack-done _ _ _ (known (c .before .before .before .before .before .before)) (omega arith)) (omega (arith, length-bytes ((length row + 7) / 8) row)) (c .before .before .put-bytes .ensures)
+
+pub pack-spec : {M : Type 1} → statement M
+pack-spec =
+    tie.close
+    (tie.spec
+    shape-requires
+    enum-known-shaped
+    enum-told
+    returns
+    add-needed
+    add-needed-2
+    returns-2
+    slice-write-out
+    cast-out
+    slice-write-out-2
+    put-bytes-requires
+    same-length
+    returns-3)

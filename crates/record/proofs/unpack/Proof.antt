@@ -1,0 +1,66 @@
+-- `record::unpack` meets its contract: the tests of a record, the room, the cells.
+-- Assumes nothing.
+use native.Mathlib.Omega.{arith}
+use borrow.Author.Needs.{needs}
+use Rattle.helpers.specs.Numbers.{refusalNumber}
+use Rattle.helpers.specs.declared.Refusal.the-variants.{Room}
+use Rattle.helpers.proofs.Gives.{refused, stored, handed-on, told-refused, told-done}
+use Rattle.record.proofs.Answering.{Passed, tested-passed, unpack-refused, unpack-room, unpack-done}
+use Rattle.record.proofs.unpack.Statement.{statement}
+use Rattle.record.proofs.unpack.Tie as tie
+
+-- what is known of the record behind the tests
+known : (v : tie.After-tested) → Passed (v .before .before .before .before .before .args .«record» .now) (v .tested .given .0 .0)
+known v = tested-passed _ _ (told-done (v .tested .given .1) (v .before .before .test .ensures))
+
+test-requires : tie.Need-test-requires
+test-requires c κs = search needs
+
+enum-known-tested : tie.Need-enum-known-tested
+enum-known-tested c = search needs
+
+enum-told : tie.Need-enum-told
+enum-told c = search needs
+
+returns : tie.Need-returns
+returns c = handed-on (c .enum-told .given .1) (unpack-refused _ _ _ _ (told-refused (c .enum-told .given .1) (c .before .before .test .ensures)))
+
+returns-2 : tie.Need-returns-2
+unfolding refusalNumber
+returns-2 c = refused Room _ (unpack-room _ _ _ (known (c .before .before)) (omega arith))
+
+sub-put-cells : tie.Need-sub-put-cells
+sub-put-cells c = known (c .before .before) .headed
+
+part-put-cells-start : tie.Need-part-put-cells-start
+part-put-cells-start c = known (c .before .before) .headed
+
+part-put-cells-end : tie.Need-part-put-cells-end
+part-put-cells-end c = search needs
+
+put-cells-requires : tie.Need-put-cells-requires
+put-cells-requires c κs = (known (c .before .before .before .before) .enough, omega arith)
+
+same-length : tie.Need-same-length
+same-length c = search needs
+
+returns-3 : tie.Need-returns-3
+returns-3 c =
+    let p = known (c .before .before .before .before .before .before .before) in
+    stored _ _ (unpack-done _ _ _ p (omega arith)) (omega arith) (c .before .before .put-cells .ensures)
+
+pub unpack-spec : {M : Type 1} → statement M
+unpack-spec =
+    tie.close
+    (tie.spec
+    test-requires
+    enum-known-tested
+    enum-told
+    returns
+    returns-2
+    sub-put-cells
+    part-put-cells-start
+    part-put-cells-end
+    put-cells-requires
+    same-length
+    returns-3)

@@ -1,0 +1,47 @@
+-- `speller::spell` meets its contract: `fit` has its refusals, and what it accepts is written from the front on.
+-- Assumes nothing.
+use mathlib.Core.Path.{refl}
+use borrow.Author.Needs.{needs}
+use Rattle.paper.specs.Crate.{letters}
+use Rattle.speller.specs.Walked.{sayOf}
+use Rattle.speller.proofs.Fits.{spell-walks, job-refused, job-fits, job-done}
+use Rattle.speller.proofs.spell.Statement.{statement}
+use Rattle.speller.proofs.spell.Tie as tie
+
+fit-requires : tie.Need-fit-requires
+fit-requires c κs = search needs
+
+enum-told : tie.Need-enum-told
+enum-told c = search needs
+
+enum-told-2 : tie.Need-enum-told-2
+enum-told-2 c = search needs
+
+returns : tie.Need-returns
+unfolding sayOf
+returns c = rw (spell-walks _ _) (job-refused letters _ _ (c .before .before .fit .ensures) (c .enum-told2 .given .1))
+
+write-letters-requires : tie.Need-write-letters-requires
+unfolding sayOf
+write-letters-requires c κs = job-fits letters _ _ (c .before .before .before .fit .ensures) (c .before .enum-told .given .1)
+
+same-length : tie.Need-same-length
+same-length c = search needs
+
+returns-2 : tie.Need-returns-2
+unfolding sayOf
+returns-2 c =
+    let tested = c .before .before .before .before in
+    rw (spell-walks _ _) (job-done letters _ _ (tested .before .before .fit .ensures) (tested .enum-told .given .1) refl (c .before .before .write-letters .ensures))
+
+pub spell-spec : {M : Type 1} → statement M
+spell-spec =
+    tie.close
+    (tie.spec
+    fit-requires
+    enum-told
+    enum-told-2
+    returns
+    write-letters-requires
+    same-length
+    returns-2)
