@@ -1,0 +1,46 @@
+-- `lines::finish` meets its contract: the buffer tells what the line gives.
+-- Assumes nothing.
+use native.Mathlib.Nat.{sub-zero}
+use native.Mathlib.Omega.{arith}
+use borrow.Author.Needs.{needs}
+use Rattle.lines.proofs.Feeds.{wrote-within, finish-none, finish-line}
+use Rattle.lines.proofs.finish.Statement.{statement}
+use Rattle.lines.proofs.finish.Tie as tie
+
+shorter-requires : tie.Need-shorter-requires
+shorter-requires c κs = search needs
+
+returns : tie.Need-returns
+returns c = (λ cur h. finish-none (c .before .shorter .ensures) (c .if1 .taken) h, omega arith)
+
+sub-answer-line : tie.Need-sub-answer-line
+sub-answer-line c = search needs
+
+part-answer-line-start : tie.Need-part-answer-line-start
+part-answer-line-start c = search needs
+
+part-answer-line-end : tie.Need-part-answer-line-end
+part-answer-line-end c = search needs
+
+answer-line-requires : tie.Need-answer-line-requires
+answer-line-requires c κs = search needs
+
+same-length : tie.Need-same-length
+same-length c = search needs
+
+returns-2 : tie.Need-returns-2
+returns-2 c = let w = c .before .before .answer-line .ensures in
+    (λ cur h. finish-line (c .before .before .before .before .before .before .shorter .ensures) (omega arith) (rw sub-zero at w) h, wrote-within w)
+
+pub finish-spec : {M : Type 1} → statement M
+finish-spec =
+    tie.close
+    (tie.spec
+    shorter-requires
+    returns
+    sub-answer-line
+    part-answer-line-start
+    part-answer-line-end
+    answer-line-requires
+    same-length
+    returns-2)

@@ -1,0 +1,4 @@
+pub mod Form
+pub mod Given
+pub mod Lines
+pub mod Run

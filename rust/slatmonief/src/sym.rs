@@ -1,0 +1,3 @@
+//! The symbologies under the names of the crate barcoders.
+
+pub mod code128;
