@@ -31,17 +31,17 @@ unfolding check
 summing-begin {s = []} {v = v} h e b = absurd (not-suc-le-zero h)
 summing-begin {s = x ∷ xs} {v = v} h e b = record { some = omega arith; within = omega arith; fits = omega arith; left = rw e refl }
 
-pub summing-turn : {s : List ℕ} {sum i v : ℕ} → Summing s sum i → i < length s → i ≤ 255 → v ≡ getD s i 0 → v ≤ 255 → Summing s (sum + i * v) (i + 1)
+pub summing-turn : {s : List ℕ} {sum w i v : ℕ} → Summing s sum i → w ≡ i → i < length s → i ≤ 255 → v ≡ getD s i 0 → v ≤ 255 → Summing s (sum + w * v) (i + 1)
 unfolding weighed
-summing-turn {s} {sum} {i} {v} p h c e b =
+summing-turn {s} {sum} {w} {i} {v} p weight h c e b =
     let turn : weighed i (drop i s) ≡ i * v + weighed (i + 1) (drop (i + 1) s) = rw (add-one i, e, drop-cons s i 0 h) refl in
     let same : sum + i * v + weighed (i + 1) (drop (i + 1) s) ≡ sum + weighed i (drop i s) = omega arith in
-    record {
+    rw weight (record {
       some = omega arith;
       within = omega arith;
       fits = omega (arith, small i v c b);
       left = rw same (p .left);
-    }
+    })
 
 pub summing-end : {s : List ℕ} {sum i : ℕ} → Summing s sum i → length s ≤ i → sum % 103 ≡ check s
 unfolding weighed

@@ -1,4 +1,4 @@
-// Code 128 after `src/sym/code128.rs` of barcoders 2.0.0: the table, the character sets, the check.
+// Code 128 after `src/sym/code128.rs` of barcoders 2.0.0: the table, the character sets, the check, draw and encode.
 ghost use mathlib.Core.Path.{_≡_};
 ghost use Prim.Native.Nat.{_<_, _≤_};
 ghost use lib.ListN.{length, take};
@@ -121,14 +121,17 @@ pub fn checksum_value(symbols: &[u8]) -> u8
         return 0;
     }
     let mut sum = wide(symbols[0]);
+    let mut weight: u32 = 1;
     let mut i: usize = 1;
     while i < n {
-        sum += (i as u32) * wide(symbols[i]);
+        sum += weight * wide(symbols[i]);
+        weight += 1;
         i += 1;
     }
     (sum % 103) as u8
 }
 
+// A byte as a wider number, in which the sum fits.
 fn wide(x: u8) -> u32
     ensures { λ r. ⌜ (r ≡ x) × (r < 256) ⌝ }
 {
