@@ -60,7 +60,7 @@ fn read_byte(k: u8, v: u32, b: u8) -> Read
 }
 
 // The code points of a line, stored from the front of `text`: a line of 4,096 bytes has at most 2,048.
-pub fn points(line: &[u8], text: &mut [u32]) -> Form
+pub(crate) fn points(line: &[u8], text: &mut [u32]) -> Form
     requires { ⌜ 2048 ≤ length (now text) ⌝ }
     ensures { λ r. ⌜ Formed r (formOf (now (line .entry))) (now (text .exit)) ⌝ }
 {

@@ -25,7 +25,7 @@ fn push(line: &mut [u8], len: usize, b: u8) -> usize
 }
 
 // Goes on with a line to the next newline, or to the chunk's end.
-pub fn gather(chunk: &[u8], at: usize, line: &mut [u8], len: usize) -> Place
+pub(crate) fn gather(chunk: &[u8], at: usize, line: &mut [u8], len: usize) -> Place
     requires { ⌜ len ≤ length (now line) ⌝ }
     ensures { λ r. ⌜ Fed (now (chunk .entry)) at (now (line .entry)) len [] (r .at) (now (line .exit)) (r .len) ⌝ }
     ensures { λ r. ⌜ (r .at < length (now (chunk .entry)) → getD (now (chunk .entry)) (r .at) 0 ≡ 10) ⌝ }

@@ -48,7 +48,7 @@ fn put_cells(out: &mut [u8], at: usize, cells: &[u8])
 }
 
 // A line of text at the front of `out`, where it fits: `head`, the cells, a newline. Answers how many bytes it has.
-pub fn write_line(head: &[u8], cells: &[u8], out: &mut [u8]) -> usize
+pub(crate) fn write_line(head: &[u8], cells: &[u8], out: &mut [u8]) -> usize
     requires { ⌜ Each (λ c. c ≤ 1) (now cells) ⌝ }
     ensures { λ r. ⌜ Wrote (now (head .entry) ++ map (λ c. 48 + c) (now (cells .entry)) ++ (10 ∷ [])) r (now (out .entry)) (now (out .exit)) ⌝ }
 {
@@ -64,7 +64,7 @@ pub fn write_line(head: &[u8], cells: &[u8], out: &mut [u8]) -> usize
 }
 
 // What a line's code points give: the answer's numbers and, after a 0, the row's cells.
-pub fn answer_points(text: &[u32], out: &mut [u8]) -> usize
+pub(crate) fn answer_points(text: &[u32], out: &mut [u8]) -> usize
     requires { ⌜ length (now text) ≤ 2048 ⌝ }
     ensures { λ r. ⌜ Wrote (told (encode (rowLength most) (now (text .entry))) ++ (10 ∷ [])) r (now (out .entry)) (now (out .exit)) ⌝ }
 {
