@@ -1,0 +1,83 @@
+//! The label program as it would be written over the crate barcoders: a line of code points in, a line of cells out.
+//!
+//! For a line that is accepted it writes what the label program writes. The crate does not say where parsing stops, so that the second
+//! number of refusal 3 is a `?` here; and a line of any length is held in memory as a whole.
+use barcoders::error::Error;
+use barcoders::sym::code128::Code128;
+use std::io::{self, BufRead, Write};
+
+/// The most bytes of a line.
+const LINE: usize = 4096;
+
+/// The most symbols of a label.
+const MOST: usize = 255;
+
+/// The number that one to six upper-case hex digits write.
+fn number(digits: &[u8]) -> Option<u32> {
+    if !(1..=6).contains(&digits.len()) {
+        return None;
+    }
+    digits.iter().try_fold(0, |value, &digit| match digit {
+        b'0'..=b'9' => Some(value << 4 | u32::from(digit - b'0')),
+        b'A'..=b'F' => Some(value << 4 | u32::from(digit - b'A' + 10)),
+        _ => None,
+    })
+}
+
+/// Reads a line's code points into `points`; false where it is of another form.
+fn read_line(line: &[u8], points: &mut Vec<u32>) -> bool {
+    points.clear();
+    if line.is_empty() {
+        return true;
+    }
+    if line.len() > LINE {
+        return false;
+    }
+    line.split(|&byte| byte == b' ').all(|digits| number(digits).map(|point| points.push(point)).is_some())
+}
+
+/// Makes the code points a text; the place of the first that is no scalar value otherwise.
+fn read_points(points: &[u32], text: &mut String) -> Result<(), usize> {
+    text.clear();
+    for (place, &point) in points.iter().enumerate() {
+        text.push(char::from_u32(point).ok_or(place)?);
+    }
+    Ok(())
+}
+
+/// Writes what a text gives: the row's cells, or why there are none.
+fn write_text(text: &str, out: &mut Vec<u8>) -> io::Result<()> {
+    match Code128::new(text).map(|barcode| barcode.encode()) {
+        Err(Error::Length) => write!(out, "2 0"),
+        Err(_) => write!(out, "3 ?"),
+        Ok(row) => match (row.len() - 24) / 11 {
+            n if n > MOST => write!(out, "4 {n}"),
+            n => {
+                write!(out, "0 {n} ")?;
+                out.extend(row.iter().map(|cell| b'0' + cell));
+                Ok(())
+            }
+        },
+    }
+}
+
+/// Answers every line of the input; the buffers are used again for each.
+pub fn run(mut input: impl BufRead, mut output: impl Write) -> io::Result<()> {
+    let (mut line, mut points, mut text, mut out) = (Vec::new(), Vec::new(), String::new(), Vec::new());
+    while input.read_until(b'\n', &mut line)? > 0 {
+        let content = line.strip_suffix(b"\n").unwrap_or(&line);
+        if read_line(content, &mut points) {
+            match read_points(&points, &mut text) {
+                Ok(()) => write_text(&text, &mut out)?,
+                Err(place) => write!(out, "1 {place}")?,
+            }
+        } else {
+            out.push(b'?');
+        }
+        out.push(b'\n');
+        output.write_all(&out)?;
+        line.clear();
+        out.clear();
+    }
+    output.flush()
+}

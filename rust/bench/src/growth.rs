@@ -1,0 +1,97 @@
+//! How the time of each job grows with n: a line fitted through its times from n = 1 to 255.
+use crate::jobs::lent;
+use crate::report::short;
+use crate::timing::{measure, median, Side};
+use bench::inputs::{labels, Kind, Label};
+
+/// The sizes that are timed.
+const SIZES: [usize; 13] = [1, 2, 4, 8, 16, 32, 64, 96, 128, 160, 192, 224, 255];
+
+/// From this size on a departure from the line counts: below it the constant part is most of the time.
+const FROM: usize = 16;
+
+/// How many labels of a size: more than elsewhere, so that they are alike on average, since the search takes longer for some symbols than for others.
+fn count(n: usize) -> usize {
+    (16384 / n).clamp(64, 512)
+}
+
+/// A growth is called straight where no time from n = 16 on departs from the line by more.
+const STRAIGHT: f64 = 0.15;
+
+/// A line through points: t = a + b·n, how much of the times' spread it explains, and the largest departure relative to it.
+struct Fit {
+    a: f64,
+    b: f64,
+    explained: f64,
+    departure: f64,
+}
+
+/// Fits a line by least squares.
+fn fit(times: &[f64]) -> Fit {
+    let points: Vec<(f64, f64)> = SIZES.iter().map(|&n| n as f64).zip(times.iter().copied()).collect();
+    let count = points.len() as f64;
+    let mean = |f: fn(&(f64, f64)) -> f64| points.iter().map(f).sum::<f64>() / count;
+    let (x, y) = (mean(|p| p.0), mean(|p| p.1));
+    let sum = |f: &dyn Fn(&(f64, f64)) -> f64| points.iter().map(f).sum::<f64>();
+    let b = sum(&|p| (p.0 - x) * (p.1 - y)) / sum(&|p| (p.0 - x).powi(2));
+    let a = y - b * x;
+    let line = |n: f64| a + b * n;
+    let explained = 1.0 - sum(&|p| (p.1 - line(p.0)).powi(2)) / sum(&|p| (p.1 - y).powi(2));
+    let far = points.iter().filter(|p| p.0 >= FROM as f64).map(|p| (p.1 / line(p.0) - 1.0).abs());
+    Fit { a, b, explained, departure: far.fold(0.0, f64::max) }
+}
+
+/// The median times of a job at every size, the sizes in turn within each round.
+fn grow(labels: &[Vec<Label>], rounds: usize, side: impl Fn(&[Label]) -> Side) -> Vec<f64> {
+    let mut sides: Vec<Side> = labels.iter().map(|labels| side(labels)).collect();
+    measure(&mut sides, rounds).iter().map(|times| median(times)).collect()
+}
+
+/// One form of every label.
+fn each<I>(labels: &[Label], form: fn(&Label) -> &[I]) -> Vec<&[I]> {
+    labels.iter().map(form).collect()
+}
+
+/// Prints the times of every job at every size.
+fn print_times(jobs: &[(&str, Vec<f64>)]) {
+    println!("\n### Time of the library's jobs from n = 1 to 255, set B, ns\n");
+    println!("| job | {} |", SIZES.map(|n| n.to_string()).join(" | "));
+    println!("|---|{}", "---:|".repeat(SIZES.len()));
+    for (name, times) in jobs {
+        println!("| {name} | {} |", times.iter().map(|&t| short(t)).collect::<Vec<_>>().join(" | "));
+    }
+}
+
+/// Prints the line of every job; answers what is not straight.
+fn print_lines(jobs: &[(&str, Vec<f64>)]) -> Vec<String> {
+    println!("\n### The line t = a + b·n through these times\n");
+    println!("| job | a, ns | b, ns | R² | largest departure from the line, n ≥ {FROM} | at most {STRAIGHT} |");
+    println!("|---|---:|---:|---:|---:|---|");
+    let mut bent = Vec::new();
+    for (name, times) in jobs {
+        let f = fit(times);
+        let straight = f.departure <= STRAIGHT;
+        let verdict = if straight { "straight" } else { "**not straight**" };
+        println!("| {name} | {:.1} | {:.3} | {:.4} | {:.3} | {verdict} |", f.a, f.b, f.explained, f.departure);
+        if !straight {
+            bent.push(format!("Growth of {name}: departs from the line by {:.3}", f.departure));
+        }
+    }
+    bent
+}
+
+/// Times every job at every size and prints both tables; answers how many there are and what is not straight.
+pub fn run(rounds: usize) -> (usize, Vec<String>) {
+    let labels: Vec<Vec<Label>> = SIZES.iter().map(|&n| labels(Kind::B, n, count(n))).collect();
+    let jobs = [
+        ("encode", grow(&labels, rounds, |l| lent(&each(l, |l| &l.points), slatmonief::encode))),
+        ("draw", grow(&labels, rounds, |l| lent(&each(l, |l| &l.symbols), slatmonief::draw))),
+        ("read", grow(&labels, rounds, |l| lent(&each(l, |l| &l.row), slatmonief::read))),
+        ("spell", grow(&labels, rounds, |l| lent(&each(l, |l| &l.symbols), slatmonief::spell))),
+        ("scan", grow(&labels, rounds, |l| lent(&each(l, |l| &l.symbols), slatmonief::scan))),
+        ("pack", grow(&labels, rounds, |l| lent(&each(l, |l| &l.row), slatmonief::pack))),
+        ("unpack", grow(&labels, rounds, |l| lent(&each(l, |l| &l.record), slatmonief::unpack))),
+    ];
+    print_times(&jobs);
+    (jobs.len(), print_lines(&jobs))
+}

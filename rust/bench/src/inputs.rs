@@ -1,0 +1,103 @@
+//! What is timed and tested: random labels of exactly n symbols, the same in every run.
+use slatmonief::{draw_symbols, pack_row, spell_symbols};
+
+/// A small generator of numbers with a fixed beginning (splitmix64), so that every run has the same inputs.
+pub struct Numbers(u64);
+
+impl Numbers {
+    /// Begins at a seed.
+    pub fn new(seed: u64) -> Numbers {
+        Numbers(seed)
+    }
+
+    /// The next 64 bits.
+    fn next(&mut self) -> u64 {
+        self.0 = self.0.wrapping_add(0x9E37_79B9_7F4A_7C15);
+        let mut z = self.0;
+        z = (z ^ z >> 30).wrapping_mul(0xBF58_476D_1CE4_E5B9);
+        z = (z ^ z >> 27).wrapping_mul(0x94D0_49BB_1331_11EB);
+        z ^ z >> 31
+    }
+
+    /// A number below `end`.
+    pub fn below(&mut self, end: usize) -> usize {
+        (self.next() % end as u64) as usize
+    }
+
+    /// A byte below `end`.
+    pub fn byte(&mut self, end: u8) -> u8 {
+        self.below(usize::from(end)) as u8
+    }
+}
+
+/// Which symbols a label has.
+#[derive(Clone, Copy, Debug, PartialEq, Eq)]
+pub enum Kind {
+    /// Set A, the numbers 0 to 95.
+    A,
+    /// Set B, the numbers 0 to 95.
+    B,
+    /// Set C, the pairs 0 to 99.
+    C,
+    /// Any START and then any number at any place, so with function symbols and with switches.
+    Mixed,
+}
+
+impl Kind {
+    /// The name in a table.
+    pub fn name(self) -> &'static str {
+        match self {
+            Kind::A => "A",
+            Kind::B => "B",
+            Kind::C => "C",
+            Kind::Mixed => "mixed",
+        }
+    }
+
+    /// The START and the end of the numbers behind it.
+    fn numbers(self, random: &mut Numbers) -> (u8, u8) {
+        match self {
+            Kind::A => (103, 96),
+            Kind::B => (104, 96),
+            Kind::C => (105, 100),
+            Kind::Mixed => (103 + random.byte(3), 103),
+        }
+    }
+}
+
+/// One label in each form that a job takes.
+pub struct Label {
+    /// The symbol list.
+    pub symbols: Vec<u8>,
+    /// Its text for the crate.
+    pub text: String,
+    /// Its text as code points.
+    pub points: Vec<u32>,
+    /// Its row.
+    pub row: Vec<u8>,
+    /// Its row record.
+    pub record: Vec<u8>,
+}
+
+/// A symbol list of exactly n symbols.
+pub fn list(random: &mut Numbers, kind: Kind, n: usize) -> Vec<u8> {
+    let (start, end) = kind.numbers(random);
+    let mut symbols = vec![start];
+    symbols.extend((1..n).map(|_| random.byte(end)));
+    symbols
+}
+
+/// A label in all its forms.
+pub fn label(symbols: Vec<u8>) -> Label {
+    let text = spell_symbols(&symbols).expect("a symbol list");
+    let points = text.chars().map(u32::from).collect();
+    let row = draw_symbols(&symbols).expect("a symbol list");
+    let record = pack_row(&row).expect("a row");
+    Label { symbols, text, points, row, record }
+}
+
+/// So many different labels of exactly n symbols.
+pub fn labels(kind: Kind, n: usize, count: usize) -> Vec<Label> {
+    let mut random = Numbers::new(1000 * kind as u64 + n as u64);
+    (0..count).map(|_| label(list(&mut random, kind, n))).collect()
+}

@@ -1,0 +1,153 @@
+//! The seven jobs beside plain Rust, and encode beside the crate.
+use crate::report::Table;
+use crate::timing::{measure, Side};
+use barcoders::sym::code128::Code128;
+use bench::inputs::{labels, Kind, Label};
+use bench::plain::{self, Answer};
+use slatmonief::Refusal;
+use std::fmt::Debug;
+use std::hint::black_box;
+
+/// The sizes of the labels.
+const SIZES: [usize; 4] = [2, 14, 50, 255];
+
+/// The kinds of label; `Mixed` is reported beside them.
+const KINDS: [Kind; 4] = [Kind::A, Kind::B, Kind::C, Kind::Mixed];
+
+/// So many different labels are gone over in a batch: more where they are short, so that the processor does not learn their symbols by heart.
+fn count(n: usize) -> usize {
+    (4096 / n).clamp(16, 256)
+}
+
+/// The size of every lent buffer: enough for any job.
+const ROOM: usize = 2829;
+
+/// The most that the library may take of the crate's time.
+const OF_CRATE: f64 = 0.06;
+
+/// The most that the library may take of plain Rust's time.
+const OF_PLAIN: f64 = 1.5;
+
+/// A side that lends one buffer to a job over and over.
+pub fn lent<'a, I, O, R>(inputs: &[&'a [I]], job: impl Fn(&[I], &mut [O]) -> R + 'a) -> Side<'a>
+where
+    O: Copy + Default + 'a,
+{
+    let mut buffer = vec![O::default(); ROOM];
+    Side::new(inputs.to_vec(), move |input| {
+        black_box(job(input, &mut buffer));
+    })
+}
+
+/// Asserts that both sides answer the same and leave the same buffer on every input.
+fn agree<I, O>(inputs: &[&[I]], job: impl Fn(&[I], &mut [O]) -> Result<usize, Refusal>, plain: impl Fn(&[I], &mut [O]) -> Answer)
+where
+    O: Copy + Default + PartialEq + Debug,
+{
+    for input in inputs {
+        let (mut ours, mut theirs) = (vec![O::default(); ROOM], vec![O::default(); ROOM]);
+        let answer = job(input, &mut ours).expect("the inputs are all accepted");
+        assert_eq!((0, answer), plain(input, &mut theirs));
+        assert_eq!(ours, theirs);
+    }
+}
+
+/// Asserts that the crate gives the rows of the library.
+fn agree_with_crate(labels: &[Label]) {
+    for label in labels {
+        let row = Code128::new(&label.text).expect("the inputs are all accepted").encode();
+        assert_eq!(row, label.row);
+        assert_eq!(row, slatmonief::encode_str(&label.text).expect("the inputs are all accepted"));
+    }
+}
+
+/// The first columns of a line.
+fn key(kind: Kind, n: usize) -> String {
+    format!("{} | {n}", kind.name())
+}
+
+/// A target that the mixed labels do not have: they are reported.
+fn unless_mixed(kind: Kind, target: f64) -> Option<f64> {
+    (kind != Kind::Mixed).then_some(target)
+}
+
+/// Encode, beside the crate and beside plain Rust in the same rounds; and `Code128` of the library's face, which makes vectors, beside the crate's.
+pub fn encode(rounds: usize) -> Vec<Table> {
+    let mut of_crate = Table::new("Encode beside the crate", "set | n", "ns", "crate");
+    let mut of_plain = Table::new("Encode beside plain Rust", "set | n", "ns", "plain");
+    let mut same_face = Table::new("`Code128::new(text)` and `encode()` of the library's Rust face beside the crate's", "set | n", "ns", "crate");
+    for (kind, n) in KINDS.into_iter().flat_map(|kind| SIZES.map(|n| (kind, n))) {
+        let labels = labels(kind, n, count(n));
+        let points: Vec<&[u32]> = labels.iter().map(|l| &l.points[..]).collect();
+        let texts: Vec<&str> = labels.iter().map(|l| &l.text[..]).collect();
+        agree(&points, slatmonief::encode, plain::encode);
+        agree_with_crate(&labels);
+        let mut sides = [
+            lent(&points, slatmonief::encode),
+            lent(&points, plain::encode),
+            Side::new(texts.clone(), |text: &str| drop(black_box(Code128::new(text).unwrap().encode()))),
+            Side::new(texts, |text: &str| drop(black_box(slatmonief::sym::code128::Code128::new(text).unwrap().encode()))),
+        ];
+        let times = measure(&mut sides, rounds);
+        of_crate.add(key(kind, n), &times[0], &times[2], unless_mixed(kind, OF_CRATE));
+        of_plain.add(key(kind, n), &times[0], &times[1], unless_mixed(kind, OF_PLAIN));
+        same_face.add(key(kind, n), &times[3], &times[2], None);
+    }
+    vec![of_crate, of_plain, same_face]
+}
+
+/// Read, beside the plain nested search and beside the table-driven reader in the same rounds.
+pub fn read(rounds: usize) -> Vec<Table> {
+    let mut of_plain = Table::new("Read beside plain Rust with the same nested search", "set | n", "ns", "plain");
+    let mut of_table = Table::new("Read beside a table-driven reader (the limit)", "set | n", "ns", "table");
+    for n in SIZES {
+        let labels = labels(Kind::Mixed, n, count(n));
+        let rows: Vec<&[u8]> = labels.iter().map(|l| &l.row[..]).collect();
+        agree(&rows, slatmonief::read, plain::read);
+        agree(&rows, slatmonief::read, plain::table_read);
+        let mut sides = [lent(&rows, slatmonief::read), lent(&rows, plain::read), lent(&rows, plain::table_read)];
+        let times = measure(&mut sides, rounds);
+        of_plain.add(key(Kind::Mixed, n), &times[0], &times[1], Some(OF_PLAIN));
+        of_table.add(key(Kind::Mixed, n), &times[0], &times[2], None);
+    }
+    vec![of_plain, of_table]
+}
+
+/// A job beside plain Rust on every kind of label; the macro takes the job's name, so that both sides are called directly.
+macro_rules! beside_plain {
+    ($(#[$doc:meta])* $job:ident, $title:literal, $input:ident, $kinds:expr, $target:expr) => {
+        $(#[$doc])*
+        pub fn $job(rounds: usize) -> Vec<Table> {
+            let mut table = Table::new(concat!($title, " beside plain Rust"), "set | n", "ns", "plain");
+            for (kind, n) in $kinds.into_iter().flat_map(|kind| SIZES.map(|n| (kind, n))) {
+                let labels = labels(kind, n, count(n));
+                let inputs: Vec<&[u8]> = labels.iter().map(|l| &l.$input[..]).collect();
+                agree(&inputs, slatmonief::$job, plain::$job);
+                let times = measure(&mut [lent(&inputs, slatmonief::$job), lent(&inputs, plain::$job)], rounds);
+                table.add(key(kind, n), &times[0], &times[1], $target);
+            }
+            vec![table]
+        }
+    };
+}
+
+beside_plain! {
+    /// Draw: reported, since encode has its passes.
+    draw, "Draw", symbols, [Kind::Mixed], None
+}
+beside_plain! {
+    /// Spell, on every kind of label: what a number gives depends on its set.
+    spell, "Spell", symbols, KINDS, Some(OF_PLAIN)
+}
+beside_plain! {
+    /// Scan, likewise.
+    scan, "Scan", symbols, KINDS, Some(OF_PLAIN)
+}
+beside_plain! {
+    /// Pack, which sees cells only.
+    pack, "Pack", row, [Kind::Mixed], Some(OF_PLAIN)
+}
+beside_plain! {
+    /// Unpack, which sees bytes only.
+    unpack, "Unpack", record, [Kind::Mixed], Some(OF_PLAIN)
+}

@@ -1,0 +1,396 @@
+//! The seven jobs in plain, safe Rust, with the passes of the library over the same data and all of its refusals: the measure of
+//! what the library's own code costs. Every entry is kept from being inlined, as the library's are.
+use crate::patterns::{CHARS, MOST, NONE, STOP, SYMBOLS};
+
+/// 0 and the number of an acceptance, or a refusal's number and its second number.
+pub type Answer = (u32, usize);
+
+/// FNC1, the one code point that may stand between the digits of a pair.
+const FNC1: u32 = 0x179;
+
+/// The three character sets, and `None` before the START.
+#[derive(Clone, Copy, PartialEq, Eq)]
+enum Set {
+    None,
+    A,
+    B,
+    C,
+}
+
+impl Set {
+    /// The number of a code point in the set; the pairs of set C are the parser's.
+    fn number(self, c: u32) -> Option<u8> {
+        let number = match (self, c) {
+            (Set::A, 0x20..=0x5F) | (Set::B, 0x20..=0x7E) => c - 0x20,
+            (Set::A, 0..=0x1F) => c + 64,
+            (Set::B, 0xF7) => 95,
+            (Set::A | Set::B, 0x17B) => 96,
+            (Set::A | Set::B, 0x17A) => 97,
+            (Set::A | Set::B, 0x17D) => 98,
+            (Set::A | Set::B, 0x106) => 99,
+            (Set::A | Set::C, 0x181) | (Set::B, 0x17C) => 100,
+            (Set::A, 0x17C) | (Set::B | Set::C, 0xC0) => 101,
+            (Set::A | Set::B | Set::C, FNC1) => 102,
+            (Set::None, 0xC0) => 103,
+            (Set::None, 0x181) => 104,
+            (Set::None, 0x106) => 105,
+            _ => return None,
+        };
+        Some(number as u8)
+    }
+
+    /// The set after a symbol: a START or a switch moves it. In set C 99 is a pair.
+    fn next(self, number: u8) -> Set {
+        match (self, number) {
+            (Set::A | Set::B, 99) | (Set::None, 105) => Set::C,
+            (Set::A | Set::C, 100) | (Set::None, 104) => Set::B,
+            (Set::B | Set::C, 101) | (Set::None, 103) => Set::A,
+            _ => self,
+        }
+    }
+}
+
+/// What one number gives when it is spelled or scanned.
+#[derive(Clone, Copy)]
+enum Said {
+    Nothing,
+    One(u32),
+    Two(u32, u32),
+}
+
+/// The two numbers of an acceptance or a refusal.
+fn told(result: Result<usize, Answer>) -> Answer {
+    match result {
+        Ok(n) => (0, n),
+        Err(refusal) => refusal,
+    }
+}
+
+/// Code points to a row.
+#[inline(never)]
+pub fn encode(text: &[u32], row: &mut [u8]) -> Answer {
+    told(try_encode(text, row))
+}
+
+/// A symbol list to a row.
+#[inline(never)]
+pub fn draw(symbols: &[u8], row: &mut [u8]) -> Answer {
+    told(vet(symbols).and_then(|_| write_row(symbols, row)))
+}
+
+/// A row to its symbol list, by the nested search.
+#[inline(never)]
+pub fn read(row: &[u8], symbols: &mut [u8]) -> Answer {
+    told(try_read(row, symbols, search))
+}
+
+/// A row to its symbol list, by a table of all eleven-bit words: what a reader could gain.
+#[inline(never)]
+pub fn table_read(row: &[u8], symbols: &mut [u8]) -> Answer {
+    told(try_read(row, symbols, look_up))
+}
+
+/// A symbol list to the code points that encode to it.
+#[inline(never)]
+pub fn spell(symbols: &[u8], text: &mut [u32]) -> Answer {
+    told(tell(symbols, text, letters, |c| c))
+}
+
+/// A symbol list to the bytes that a scanner sends.
+#[inline(never)]
+pub fn scan(symbols: &[u8], bytes: &mut [u8]) -> Answer {
+    told(tell(symbols, bytes, sent, |c| c as u8))
+}
+
+/// A row's cells to a row record.
+#[inline(never)]
+pub fn pack(row: &[u8], record: &mut [u8]) -> Answer {
+    told(try_pack(row, record))
+}
+
+/// A row record to its cells.
+#[inline(never)]
+pub fn unpack(record: &[u8], row: &mut [u8]) -> Answer {
+    told(try_unpack(record, row))
+}
+
+/// Encode's tests and passes in their order: 1, 2, 3, 4, 5.
+fn try_encode(text: &[u32], row: &mut [u8]) -> Result<usize, Answer> {
+    if let Some(at) = text.iter().position(|&c| char::from_u32(c).is_none()) {
+        return Err((1, at));
+    }
+    if text.len() < 2 && text.iter().all(|&c| c < 0x80) {
+        return Err((2, 0));
+    }
+    let mut list = [0; MOST];
+    let n = parse(text, &mut list).map_err(|place| (3, place))?;
+    let symbols = list.get(..n).ok_or((4, n))?;
+    write_row(symbols, row)
+}
+
+/// The value of a digit.
+fn digit(c: u32) -> Option<u8> {
+    matches!(c, 0x30..=0x39).then(|| (c - 0x30) as u8)
+}
+
+/// The symbols of a text, stored as far as the list reaches and counted to the end, or the place where parsing stops.
+fn parse(text: &[u32], list: &mut [u8; MOST]) -> Result<usize, usize> {
+    let mut set = Set::None;
+    let mut held = None;
+    let mut n = 0;
+    for (i, &c) in text.iter().enumerate() {
+        let number = match set {
+            Set::C => match (held, digit(c)) {
+                (None, Some(d)) => {
+                    held = Some(d);
+                    continue;
+                }
+                (Some(first), Some(d)) => {
+                    held = None;
+                    10 * first + d
+                }
+                (Some(_), None) if c != FNC1 => return Err(i),
+                _ => set.number(c).ok_or(i)?,
+            },
+            _ => set.number(c).ok_or(i)?,
+        };
+        if let Some(place) = list.get_mut(n) {
+            *place = number;
+        }
+        n += 1;
+        set = set.next(number);
+    }
+    match (set, held) {
+        (Set::None, _) | (_, Some(_)) => Err(text.len()),
+        _ => Ok(n),
+    }
+}
+
+/// The check: the START weighs 1, and the number at place i weighs i.
+fn checksum(symbols: &[u8]) -> u8 {
+    let sum: u32 = symbols.iter().zip(0..).map(|(&s, i)| u32::from(s) * i.max(1)).sum();
+    (sum % 103) as u8
+}
+
+/// The eleven cells of a symbol.
+fn pattern(symbol: u8) -> &'static [u8] {
+    &CHARS[11 * usize::from(symbol)..][..11]
+}
+
+/// The row of a symbol list, where there is room: the payload, the check, the stop.
+fn write_row(symbols: &[u8], row: &mut [u8]) -> Result<usize, Answer> {
+    let payload = 11 * symbols.len();
+    let row = row.get_mut(..payload + 24).ok_or((5, payload + 24))?;
+    let check = checksum(symbols);
+    let (payload, end) = row.split_at_mut(payload);
+    for (cells, &symbol) in payload.chunks_exact_mut(11).zip(symbols) {
+        cells.copy_from_slice(pattern(symbol));
+    }
+    end[..11].copy_from_slice(pattern(check));
+    end[11..].copy_from_slice(&STOP);
+    Ok(symbols.len())
+}
+
+/// The tests that draw, spell and scan begin with: 10, 13.
+fn vet(symbols: &[u8]) -> Result<(), Answer> {
+    let (&start, rest) = symbols.split_first().ok_or((10, 0))?;
+    if symbols.len() > MOST {
+        return Err((10, symbols.len()));
+    }
+    if !(103..=105).contains(&start) {
+        return Err((13, 0));
+    }
+    match rest.iter().position(|&s| s > 102) {
+        Some(at) => Err((13, at + 1)),
+        None => Ok(()),
+    }
+}
+
+/// The tests that read and pack begin with: 10, 11. Answers the number of symbols.
+fn shape(row: &[u8]) -> Result<usize, Answer> {
+    let len = row.len();
+    if !(35..=2829).contains(&len) || len % 11 != 24 % 11 {
+        return Err((10, len));
+    }
+    match row.iter().position(|&cell| cell > 1) {
+        Some(at) => Err((11, at)),
+        None => Ok((len - 24) / 11),
+    }
+}
+
+/// Looks a block up pattern by pattern and cell by cell, and leaves a pattern at the first cell that differs. Of several ways to write
+/// these two loops this one is the fastest with the compiler at hand; with iterators in place of the places it takes about 1.7 times as long.
+fn search(block: &[u8]) -> Option<u8> {
+    'search: for s in 0..106 {
+        for j in 0..11 {
+            if block[j] != CHARS[11 * s + j] {
+                continue 'search;
+            }
+        }
+        return Some(s as u8);
+    }
+    None
+}
+
+/// Looks a block up by its word.
+fn look_up(block: &[u8]) -> Option<u8> {
+    let word = block.iter().fold(0, |word, &cell| word << 1 | usize::from(cell));
+    Some(SYMBOLS[word]).filter(|&symbol| symbol != NONE)
+}
+
+/// Read's tests and passes in their order: 10, 11, 12 and 13 from the left, 15, 14, 5.
+fn try_read(row: &[u8], symbols: &mut [u8], find: impl Fn(&[u8]) -> Option<u8>) -> Result<usize, Answer> {
+    let n = shape(row)?;
+    let mut list = [0; MOST + 1];
+    let (blocks, stop) = row.split_at(11 * (n + 1));
+    for (b, (block, place)) in blocks.chunks_exact(11).zip(&mut list).enumerate() {
+        let symbol = find(block).ok_or((12, b))?;
+        if (symbol > 102) != (b == 0) {
+            return Err((13, b));
+        }
+        *place = symbol;
+    }
+    if let Some(at) = stop.iter().zip(&STOP).position(|(cell, wanted)| cell != wanted) {
+        return Err((15, blocks.len() + at));
+    }
+    let right = checksum(&list[..n]);
+    if list[n] != right {
+        return Err((14, usize::from(right)));
+    }
+    symbols.get_mut(..n).ok_or((5, n))?.copy_from_slice(&list[..n]);
+    Ok(n)
+}
+
+/// The code points of a number: its own letter, or else what a scanner sends for it.
+fn letters(set: Set, number: u8) -> Said {
+    let letter = match (set, number) {
+        (Set::B, 95) => 0xF7,
+        (Set::A | Set::B, 96) => 0x17B,
+        (Set::A | Set::B, 97) => 0x17A,
+        (Set::A | Set::B, 98) => 0x17D,
+        (Set::A | Set::B, 99) | (Set::None, 105) => 0x106,
+        (Set::A | Set::C, 100) | (Set::None, 104) => 0x181,
+        (Set::A, 101) | (Set::B, 100) => 0x17C,
+        (Set::B | Set::C, 101) | (Set::None, 103) => 0xC0,
+        (Set::A | Set::B | Set::C, 102) => FNC1,
+        _ => return sent(set, number),
+    };
+    Said::One(letter)
+}
+
+/// The bytes that a scanner sends for a number: none for a START, a switch, Shift or a function symbol.
+fn sent(set: Set, number: u8) -> Said {
+    let c = u32::from(number);
+    match (set, number) {
+        (Set::A, 0..=63) | (Set::B, 0..=95) => Said::One(c + 32),
+        (Set::A, 64..=95) => Said::One(c - 64),
+        (Set::C, 0..=99) => Said::Two(0x30 + c / 10, 0x30 + c % 10),
+        _ => Said::Nothing,
+    }
+}
+
+/// Goes over a symbol list with the set at each place, and hands on what each number gives.
+fn walk(symbols: &[u8], say: impl Fn(Set, u8) -> Said, mut hear: impl FnMut(Said)) {
+    let mut set = Set::None;
+    for &number in symbols {
+        hear(say(set, number));
+        set = set.next(number);
+    }
+}
+
+/// Spell and scan: the tests 10, 13, 5, with the elements counted in a pass of its own, and then the writing.
+fn tell<T>(symbols: &[u8], out: &mut [T], say: impl Fn(Set, u8) -> Said, own: impl Fn(u32) -> T) -> Result<usize, Answer> {
+    vet(symbols)?;
+    let mut needed = 0;
+    walk(symbols, &say, |said| {
+        needed += match said {
+            Said::Nothing => 0,
+            Said::One(_) => 1,
+            Said::Two(_, _) => 2,
+        }
+    });
+    let out = out.get_mut(..needed).ok_or((5, needed))?;
+    let mut at = 0;
+    walk(symbols, &say, |said| match said {
+        Said::Nothing => {}
+        Said::One(c) => {
+            out[at] = own(c);
+            at += 1;
+        }
+        Said::Two(a, b) => {
+            out[at] = own(a);
+            out[at + 1] = own(b);
+            at += 2;
+        }
+    });
+    Ok(needed)
+}
+
+/// The byte of at most eight cells, the first in the top bit.
+fn byte(cells: &[u8]) -> u8 {
+    cells.iter().zip((0..8).rev()).fold(0, |byte, (&cell, bit)| byte | cell << bit)
+}
+
+/// Pack's tests and passes in their order: 10, 11, 5; the full bytes, and the last where cells are left for it.
+fn try_pack(row: &[u8], record: &mut [u8]) -> Result<usize, Answer> {
+    let n = shape(row)?;
+    let needed = 2 + row.len().div_ceil(8);
+    let record = record.get_mut(..needed).ok_or((5, needed))?;
+    let (head, bytes) = record.split_at_mut(2);
+    head.copy_from_slice(&[1, n as u8]);
+    let eights = row.chunks_exact(8);
+    let left = eights.remainder();
+    for (out, cells) in bytes.iter_mut().zip(eights) {
+        *out = byte(cells);
+    }
+    if let (false, Some(last)) = (left.is_empty(), bytes.last_mut()) {
+        *last = byte(left);
+    }
+    Ok(needed)
+}
+
+/// The tests of a record: 20, 21, 22, 23. Answers the number of its cells.
+fn test(record: &[u8]) -> Result<usize, Answer> {
+    let [version, count, ..] = *record else {
+        return Err((20, record.len()));
+    };
+    if version != 1 {
+        return Err((21, usize::from(version)));
+    }
+    if count == 0 {
+        return Err((22, 0));
+    }
+    let cells = 11 * usize::from(count) + 24;
+    let needed = 2 + cells.div_ceil(8);
+    if record.len() != needed {
+        return Err((22, needed));
+    }
+    let spare = 8 * (needed - 2) - cells;
+    if record[needed - 1] & ((1 << spare) - 1) != 0 {
+        return Err((23, needed - 1));
+    }
+    Ok(cells)
+}
+
+/// Writes the cells of a byte, the first from its top bit, as many as the part holds.
+fn spread(part: &mut [u8], byte: u8) {
+    for (cell, bit) in part.iter_mut().zip((0..8).rev()) {
+        *cell = byte >> bit & 1;
+    }
+}
+
+/// Unpack's tests and passes in their order: 20, 21, 22, 23, 5; the full bytes, and what is left of the last.
+fn try_unpack(record: &[u8], row: &mut [u8]) -> Result<usize, Answer> {
+    let n = test(record)?;
+    let row = row.get_mut(..n).ok_or((5, n))?;
+    let bytes = &record[2..];
+    let mut eights = row.chunks_exact_mut(8);
+    for (part, &byte) in eights.by_ref().zip(bytes) {
+        spread(part, byte);
+    }
+    let left = eights.into_remainder();
+    if let (false, Some(&last)) = (left.is_empty(), bytes.last()) {
+        spread(left, last);
+    }
+    Ok(n)
+}

@@ -1,0 +1,186 @@
+//! The label program beside the same filter over the crate: time and memory.
+use crate::report::Table;
+use bench::inputs::{label, list, Kind, Numbers};
+use std::fs::{self, File};
+use std::io::{self, BufReader, BufWriter, Read, Write};
+use std::path::{Path, PathBuf};
+use std::process::{Command, Stdio};
+use std::time::{Duration, Instant};
+use std::{env, thread};
+
+/// The sizes of the labels, each with the number of runs and with what the program may take of the filter's time, where something is asked.
+const SIZES: [(usize, usize, Option<f64>); 4] = [(2, 15, None), (14, 15, Some(0.15)), (50, 7, None), (255, 5, None)];
+
+/// The lines of a file.
+const LINES: usize = 100_000;
+
+/// A program that waits for input is asleep at so many looks one after the other.
+const LOOKS: usize = 5;
+
+/// The two programs.
+struct Programs {
+    label: PathBuf,
+    filter: PathBuf,
+}
+
+/// A folder for the files, which goes with this value.
+struct Folder(PathBuf);
+
+impl Folder {
+    /// Makes an empty folder of this process.
+    fn new() -> io::Result<Folder> {
+        let path = env::temp_dir().join(format!("slatmonief-bench-{}", std::process::id()));
+        fs::create_dir_all(&path)?;
+        Ok(Folder(path))
+    }
+
+    /// A file in it.
+    fn file(&self, name: &str) -> PathBuf {
+        self.0.join(name)
+    }
+}
+
+impl Drop for Folder {
+    fn drop(&mut self) {
+        let _ = fs::remove_dir_all(&self.0);
+    }
+}
+
+/// Finds the label program, by the variable SLATMONIEF_LABEL or where the build puts it.
+fn find_label() -> io::Result<PathBuf> {
+    let built = || Path::new(env!("CARGO_MANIFEST_DIR")).join("../../target/bin/label");
+    let path = env::var_os("SLATMONIEF_LABEL").map_or_else(built, PathBuf::from);
+    match path.is_file() {
+        true => Ok(path),
+        false => Err(io::Error::other("the label program is not there: build it with bin/build, or name it in SLATMONIEF_LABEL")),
+    }
+}
+
+/// Finds the filter beside this program. `cargo run` builds this program alone, so that the filter is built here.
+fn find_filter() -> io::Result<PathBuf> {
+    let path = env::current_exe()?.with_file_name("filter");
+    if let (Some(cargo), Some(target)) = (env::var_os("CARGO"), path.ancestors().nth(2)) {
+        let mut build = Command::new(cargo);
+        build.args(["build", "--quiet", "--offline", "--release", "--package", "bench", "--bin", "filter", "--target-dir"]).arg(target);
+        build.current_dir(env!("CARGO_MANIFEST_DIR")).status()?;
+    }
+    match path.is_file() {
+        true => Ok(path),
+        false => Err(io::Error::other("the filter is not there: cargo build --release -p bench --bins")),
+    }
+}
+
+/// Writes one label as a line: its code points in upper-case hex, one space between.
+fn write_line(out: &mut impl Write, points: &[u32]) -> io::Result<()> {
+    for (i, point) in points.iter().enumerate() {
+        write!(out, "{}{point:X}", if i == 0 { "" } else { " " })?;
+    }
+    out.write_all(b"\n")
+}
+
+/// Writes so many lines of n symbols each, of sets A, B and C in turn.
+fn write_lines(out: &mut impl Write, n: usize, lines: usize) -> io::Result<()> {
+    let mut random = Numbers::new(n as u64);
+    for i in 0..lines {
+        let kind = [Kind::A, Kind::B, Kind::C][i % 3];
+        write_line(out, &label(list(&mut random, kind, n)).points)?;
+    }
+    Ok(())
+}
+
+/// Seconds that a program takes from one file to another or to nothing.
+fn seconds(program: &Path, input: &Path, output: Option<&Path>) -> io::Result<f64> {
+    let stdin = File::open(input)?;
+    let stdout = output.map_or(Ok(Stdio::null()), |path| File::create(path).map(Stdio::from))?;
+    let start = Instant::now();
+    let status = Command::new(program).stdin(stdin).stdout(stdout).status()?;
+    let time = start.elapsed().as_secs_f64();
+    assert!(status.success(), "a program fails");
+    Ok(time)
+}
+
+/// Asserts that two files are equal byte for byte.
+fn assert_equal(a: &Path, b: &Path) -> io::Result<()> {
+    let length = fs::metadata(a)?.len();
+    assert!(length > 0 && length == fs::metadata(b)?.len(), "the outputs differ in length");
+    let (mut a, mut b) = (BufReader::new(File::open(a)?), BufReader::new(File::open(b)?));
+    let (mut x, mut y) = (vec![0; 1 << 20], vec![0; 1 << 20]);
+    let mut left = length as usize;
+    while left > 0 {
+        let part = left.min(x.len());
+        a.read_exact(&mut x[..part])?;
+        b.read_exact(&mut y[..part])?;
+        assert!(x[..part] == y[..part], "the outputs differ");
+        left -= part;
+    }
+    Ok(())
+}
+
+/// The seconds of both programs, run so many times in turn.
+fn in_turn(programs: &Programs, runs: usize, input: &Path, outputs: Option<(&Path, &Path)>) -> io::Result<(Vec<f64>, Vec<f64>)> {
+    let (mut ours, mut other) = (Vec::new(), Vec::new());
+    for _ in 0..runs {
+        ours.push(seconds(&programs.label, input, outputs.map(|o| o.0))?);
+        other.push(seconds(&programs.filter, input, outputs.map(|o| o.1))?);
+    }
+    Ok((ours, other))
+}
+
+/// Times the label program beside the filter, to nothing and to a file; the files are compared.
+pub fn time() -> io::Result<Vec<Table>> {
+    let programs = Programs { label: find_label()?, filter: find_filter()? };
+    let folder = Folder::new()?;
+    let (input, ours, other) = (folder.file("lines"), folder.file("ours"), folder.file("other"));
+    let mut table = Table::new("The label program beside the same filter over the crate, 100,000 lines, 5 to 15 runs", "output | n", "s", "filter");
+    for (n, runs, target) in SIZES {
+        let mut lines = BufWriter::new(File::create(&input)?);
+        write_lines(&mut lines, n, LINES)?;
+        lines.into_inner()?;
+        let (a, b) = in_turn(&programs, runs, &input, None)?;
+        table.add(format!("/dev/null | {n}"), &a, &b, target);
+        let (a, b) = in_turn(&programs, runs, &input, Some((&ours, &other)))?;
+        assert_equal(&ours, &other)?;
+        table.add(format!("a file | {n}"), &a, &b, target);
+    }
+    Ok(vec![table])
+}
+
+/// A line of what the system says about a process.
+fn status(process: u32, name: &str) -> io::Result<String> {
+    let status = fs::read_to_string(format!("/proc/{process}/status"))?;
+    let line = status.lines().find_map(|line| line.strip_prefix(name));
+    Ok(line.unwrap_or_default().trim().to_string())
+}
+
+/// The most memory in KB that a program has held once it has read all of the input and waits for more.
+fn peak(program: &Path, text: &[u8], times: usize) -> io::Result<usize> {
+    let mut run = Command::new(program).stdin(Stdio::piped()).stdout(Stdio::null()).spawn()?;
+    let mut stdin = run.stdin.take().expect("a pipe was asked for");
+    for _ in 0..times {
+        stdin.write_all(text)?;
+    }
+    let mut asleep = 0;
+    while asleep < LOOKS {
+        thread::sleep(Duration::from_millis(20));
+        asleep = if status(run.id(), "State:")?.starts_with('S') { asleep + 1 } else { 0 };
+    }
+    let most = status(run.id(), "VmHWM:")?;
+    drop(stdin);
+    assert!(run.wait()?.success(), "a program fails");
+    Ok(most.split(' ').next().and_then(|kb| kb.parse().ok()).unwrap_or(0))
+}
+
+/// Prints the most memory of both programs at ten and at a million lines of n = 14.
+pub fn memory() -> io::Result<()> {
+    let programs = Programs { label: find_label()?, filter: find_filter()? };
+    let (mut ten, mut thousand) = (Vec::new(), Vec::new());
+    write_lines(&mut ten, 14, 10)?;
+    write_lines(&mut thousand, 14, 1000)?;
+    println!("\n### The most memory, KB, n = 14\n");
+    println!("| program | ten lines | a million lines |");
+    println!("|---|---:|---:|");
+    for (name, program) in [("label", &programs.label), ("filter over the crate", &programs.filter)] {
+        println!("| {name} | {} | {} |", peak(program, &ten, 1)?, peak(program, &thousand, 1000)?);
+    }
+    Ok(())
+}

@@ -1,0 +1,78 @@
+//! The tables, in Markdown.
+use crate::timing::{median, quantile};
+
+/// One line of a table: two sides on the same inputs.
+struct Line {
+    name: String,
+    ours: f64,
+    other: f64,
+    quartiles: (f64, f64),
+    target: Option<f64>,
+}
+
+/// A table of comparisons with one other side.
+pub struct Table {
+    title: String,
+    keys: &'static str,
+    unit: &'static str,
+    other: &'static str,
+    lines: Vec<Line>,
+}
+
+impl Line {
+    /// The ratio of the medians.
+    fn ratio(&self) -> f64 {
+        self.ours / self.other
+    }
+
+    /// The target and whether it is reached; a line without one is reported only.
+    fn verdict(&self) -> String {
+        match self.target {
+            None => "– | reported".to_string(),
+            Some(most) if self.ratio() <= most => format!("{most} | reached"),
+            Some(most) => format!("{most} | **not reached**"),
+        }
+    }
+}
+
+impl Table {
+    /// An empty table; `keys` heads the first columns.
+    pub fn new(title: impl Into<String>, keys: &'static str, unit: &'static str, other: &'static str) -> Table {
+        Table { title: title.into(), keys, unit, other, lines: Vec::new() }
+    }
+
+    /// Adds a line from the times of both sides, round by round.
+    pub fn add(&mut self, name: impl Into<String>, ours: &[f64], other: &[f64], target: Option<f64>) {
+        let ratios: Vec<f64> = ours.iter().zip(other).map(|(a, b)| a / b).collect();
+        let quartiles = (quantile(&ratios, 0.25), quantile(&ratios, 0.75));
+        self.lines.push(Line { name: name.into(), ours: median(ours), other: median(other), quartiles, target });
+    }
+
+    /// Prints the table.
+    pub fn print(&self) {
+        println!("\n### {}\n", self.title);
+        println!("| {} | library, {} | {}, {} | ratio | quartiles of the ratio | target | |", self.keys, self.unit, self.other, self.unit);
+        println!("|{}---:|---:|---:|---|---:|---|", "---|".repeat(self.keys.split('|').count()));
+        for l in &self.lines {
+            let (low, high) = l.quartiles;
+            println!("| {} | {} | {} | {:.3} | {low:.3} to {high:.3} | {} |", l.name, short(l.ours), short(l.other), l.ratio(), l.verdict());
+        }
+    }
+
+    /// How many lines have a target, and a sentence for each that is not reached.
+    pub fn verdicts(&self) -> (usize, Vec<String>) {
+        let asked: Vec<_> = self.lines.iter().filter_map(|l| l.target.map(|most| (l, most))).collect();
+        let missed = asked.iter().filter(|(l, most)| l.ratio() > *most);
+        let say = |(l, most): &(&Line, f64)| format!("{}, {}: {:.3}, target {most}", self.title, l.name.replace(" |", ","), l.ratio());
+        (asked.len(), missed.map(say).collect())
+    }
+}
+
+/// A number with as many places as it needs.
+pub fn short(x: f64) -> String {
+    match x {
+        x if x >= 100.0 => format!("{x:.0}"),
+        x if x >= 10.0 => format!("{x:.1}"),
+        x => format!("{x:.3}"),
+    }
+}

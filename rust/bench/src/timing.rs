@@ -1,0 +1,74 @@
+//! Timing side by side: batches of each side in turn, many rounds, medians.
+use std::hint::black_box;
+use std::time::{Duration, Instant};
+
+/// A batch takes at least this long, so that the clock itself does not count.
+const BATCH: Duration = Duration::from_micros(300);
+
+/// One of the sides that are timed: a batch goes so many times over all of its inputs.
+pub struct Side<'a> {
+    batch: Box<dyn FnMut(usize) + 'a>,
+    inputs: usize,
+    turns: usize,
+}
+
+impl<'a> Side<'a> {
+    /// A side that does a job on each input; the job keeps its buffer, which is not cleared in between.
+    pub fn new<I: ?Sized>(inputs: Vec<&'a I>, mut job: impl FnMut(&I) + 'a) -> Side<'a> {
+        let count = inputs.len();
+        let batch = move |turns| {
+            for _ in 0..turns {
+                for &input in &inputs {
+                    job(black_box(input));
+                }
+            }
+        };
+        Side { batch: Box::new(batch), inputs: count, turns: 1 }
+    }
+
+    /// The time of one batch.
+    fn time(&mut self) -> Duration {
+        let start = Instant::now();
+        (self.batch)(self.turns);
+        start.elapsed()
+    }
+
+    /// Makes the batch long enough; it warms the side up as well.
+    fn size(&mut self) {
+        self.time();
+        while self.time() < BATCH {
+            self.turns *= 2;
+        }
+    }
+
+    /// Nanoseconds a call, over one batch.
+    fn measure(&mut self) -> f64 {
+        self.time().as_nanos() as f64 / (self.turns * self.inputs) as f64
+    }
+}
+
+/// Nanoseconds a call of every side in every round, the sides in turn within each round; each round begins with another, so that
+/// nothing else that goes on at intervals meets the same side each time.
+pub fn measure(sides: &mut [Side], rounds: usize) -> Vec<Vec<f64>> {
+    sides.iter_mut().for_each(Side::size);
+    let mut times = vec![Vec::with_capacity(rounds); sides.len()];
+    for round in 0..rounds {
+        for i in 0..sides.len() {
+            let k = (round + i) % sides.len();
+            times[k].push(sides[k].measure());
+        }
+    }
+    times
+}
+
+/// The value that the given part of the values does not exceed: 0.5 is the median.
+pub fn quantile(values: &[f64], part: f64) -> f64 {
+    let mut sorted = values.to_vec();
+    sorted.sort_by(f64::total_cmp);
+    sorted[((sorted.len() - 1) as f64 * part).round() as usize]
+}
+
+/// The median.
+pub fn median(values: &[f64]) -> f64 {
+    quantile(values, 0.5)
+}

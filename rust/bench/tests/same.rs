@@ -1,0 +1,151 @@
+//! The plain jobs are the same jobs: answer, second number and buffer, on random and on damaged inputs and at every kind of room.
+use bench::filter;
+use bench::inputs::{label, list, Kind, Label, Numbers};
+use bench::plain::{self, Answer};
+use slatmonief::Refusal;
+use std::fmt::Debug;
+
+/// A job of the library's face, from a slice of `I` to a slice of `O`.
+type Job<I, O> = fn(&[I], &mut [O]) -> Result<usize, Refusal>;
+
+/// The same job in plain Rust.
+type Plain<I, O> = fn(&[I], &mut [O]) -> Answer;
+
+/// The kinds of label.
+const KINDS: [Kind; 4] = [Kind::A, Kind::B, Kind::C, Kind::Mixed];
+
+/// The two numbers of the face's answer.
+fn told(result: Result<usize, Refusal>) -> Answer {
+    result.map_or_else(|refusal| (refusal.number(), refusal.second()), |n| (0, n))
+}
+
+/// Holds a plain job against the library's at the rooms around the one that is needed; answers the answer in ample room.
+fn same<I, O: Copy + Default + PartialEq + Debug>(input: &[I], blank: O, job: Job<I, O>, plain: Plain<I, O>) -> Answer {
+    let ample = told(job(input, &mut [O::default(); 3000]));
+    let needed = told(job(input, &mut []));
+    let needed = if needed.0 == 5 { needed.1 } else { 0 };
+    for room in [0, 1, needed.saturating_sub(1), needed, needed + 3, 3000] {
+        let (mut ours, mut theirs) = (vec![blank; room], vec![blank; room]);
+        assert_eq!(told(job(input, &mut ours)), plain(input, &mut theirs));
+        assert_eq!(ours, theirs);
+    }
+    ample
+}
+
+/// Every job on one label.
+fn same_label(l: &Label) {
+    let n = l.symbols.len();
+    assert_eq!(same(&l.points, 9, slatmonief::encode, plain::encode), (0, n));
+    assert_eq!(same(&l.symbols, 9, slatmonief::draw, plain::draw), (0, n));
+    assert_eq!(same(&l.row, 9, slatmonief::read, plain::read), (0, n));
+    assert_eq!(same(&l.row, 9, slatmonief::read, plain::table_read), (0, n));
+    assert_eq!(same(&l.symbols, 9, slatmonief::spell, plain::spell), (0, l.points.len()));
+    assert_eq!(same(&l.symbols, 9, slatmonief::scan, plain::scan).0, 0);
+    assert_eq!(same(&l.row, 9, slatmonief::pack, plain::pack), (0, l.record.len()));
+    assert_eq!(same(&l.record, 9, slatmonief::unpack, plain::unpack), (0, l.row.len()));
+    assert_eq!(barcoders::sym::code128::Code128::new(&l.text).unwrap().encode(), l.row);
+}
+
+/// A slice with one element replaced, left out or put in, or cut short, or lengthened far.
+fn damaged<T: Copy>(random: &mut Numbers, good: &[T], other: impl Fn(&mut Numbers) -> T) -> Vec<T> {
+    let mut bad = good.to_vec();
+    let at = random.below(bad.len());
+    match random.below(6) {
+        0 | 1 => bad[at] = other(random),
+        2 => drop(bad.remove(at)),
+        3 => bad.insert(at, other(random)),
+        4 => bad.truncate(at),
+        _ => bad.extend((0..random.below(300)).map(|_| good[at])),
+    }
+    bad
+}
+
+/// Code points of all sorts: letters of the sets, other letters, no scalar values.
+fn point(random: &mut Numbers) -> u32 {
+    const ODD: [u32; 18] =
+        [0xC0, 0x181, 0x106, 0x179, 0x17A, 0x17B, 0x17C, 0x17D, 0xF7, 0x7F, 0x80, 0xD7FF, 0xD800, 0xDFFF, 0xE000, 0x10FFFF, 0x110000, u32::MAX];
+    match random.below(3) {
+        0 => ODD[random.below(ODD.len())],
+        _ => random.below(0x90) as u32,
+    }
+}
+
+/// A row with some blocks replaced by patterns, so that numbers stand where they may not and checks are wrong.
+fn shuffled(random: &mut Numbers, row: &[u8]) -> Vec<u8> {
+    let mut row = row.to_vec();
+    let to = random.below((row.len() - 13) / 11);
+    row[11 * to..][..11].copy_from_slice(&bench::patterns::CHARS[11 * random.below(106)..][..11]);
+    row
+}
+
+#[test]
+fn on_labels() {
+    let mut random = Numbers::new(1);
+    for kind in KINDS {
+        for n in [1, 2, 3, 13, 14, 50, 254, 255] {
+            same_label(&label(list(&mut random, kind, n)));
+        }
+    }
+}
+
+#[test]
+fn on_damaged_texts_and_lists() {
+    let mut random = Numbers::new(2);
+    let mut seen = [0; 24];
+    for round in 0..800 {
+        let n = 1 + random.below(if round % 8 == 0 { 255 } else { 20 });
+        let l = label(list(&mut random, KINDS[round % 4], n));
+        let text = damaged(&mut random, &l.points, point);
+        let symbols = damaged(&mut random, &l.symbols, |random| random.byte(120));
+        seen[same(&text, 9, slatmonief::encode, plain::encode).0 as usize] += 1;
+        seen[same(&symbols, 9, slatmonief::draw, plain::draw).0 as usize] += 1;
+        same(&symbols, 9, slatmonief::spell, plain::spell);
+        same(&symbols, 9, slatmonief::scan, plain::scan);
+    }
+    same(&[], 9, slatmonief::encode, plain::encode);
+    same(&[0x41], 9, slatmonief::encode, plain::encode);
+    assert!([0, 1, 2, 3, 4, 10, 13].iter().all(|&number| seen[number] > 0), "{seen:?}");
+}
+
+#[test]
+fn on_damaged_rows_and_records() {
+    let mut random = Numbers::new(3);
+    let mut seen = [0; 24];
+    for round in 0..600 {
+        let n = 1 + random.below(if round % 8 == 0 { 255 } else { 20 });
+        let l = label(list(&mut random, KINDS[round % 4], n));
+        for row in [damaged(&mut random, &l.row, |random| random.byte(3)), shuffled(&mut random, &l.row)] {
+            seen[same(&row, 9, slatmonief::read, plain::read).0 as usize] += 1;
+            same(&row, 9, slatmonief::read, plain::table_read);
+            same(&row, 9, slatmonief::pack, plain::pack);
+        }
+        let mut record = damaged(&mut random, &l.record, |random| random.byte(255));
+        seen[same(&record, 9, slatmonief::unpack, plain::unpack).0 as usize] += 1;
+        record = l.record.clone();
+        *record.last_mut().unwrap() |= 1 << random.below(8);
+        seen[same(&record, 9, slatmonief::unpack, plain::unpack).0 as usize] += 1;
+    }
+    let l = label(list(&mut random, Kind::B, 4));
+    for at in 0..l.row.len() {
+        let mut row = l.row.clone();
+        row[at] ^= 1;
+        seen[same(&row, 9, slatmonief::read, plain::read).0 as usize] += 1;
+        same(&row, 9, slatmonief::read, plain::table_read);
+    }
+    assert!([0, 10, 11, 12, 13, 14, 15, 20, 21, 22, 23].iter().all(|&number| seen[number] > 0), "{seen:?}");
+}
+
+#[test]
+fn the_filter_answers_as_the_label_program() {
+    let lines = "C0\n106 31 32\n\n106 31\nD800\nC0 zz\nc0\n C0\nC0 \nC0  C0\n00000C0\n0000C0\n41";
+    let mut out = Vec::new();
+    filter::run(lines.as_bytes(), &mut out).unwrap();
+    let lone = "0 1 11010000100110110011001100011101011\n";
+    let pair = "0 2 1101001110010110011100100110011101100011101011\n";
+    let wanted = [lone, pair, "2 0\n3 ?\n1 0\n?\n?\n?\n?\n?\n?\n", lone, "2 0\n"].concat();
+    assert_eq!(String::from_utf8(out).unwrap(), wanted);
+    let long = format!("181{}\n181{}", " 41".repeat(255), " 41".repeat(1365));
+    let mut out = Vec::new();
+    filter::run(long.as_bytes(), &mut out).unwrap();
+    assert_eq!(out, b"4 256\n?\n");
+}
