@@ -1,0 +1,231 @@
+//! Encode against the crate.
+use crate::ask::{self, Crate, Tries};
+use crate::check::{broken, place_for, Subject, Tally, Worker};
+use crate::inputs::{self, SMALL, STYLES};
+use crate::model::{self, SWITCH};
+use crate::random::Random;
+use crate::run::{Result, Run};
+use std::collections::HashMap;
+
+/// All texts that begin with `root` and go on with up to `depth` of `letters`, as far as they have at least `from` code points.
+struct Tree<'a> {
+    root: Vec<u32>,
+    depth: usize,
+    letters: &'a [u32],
+    from: usize,
+}
+
+/// Up to this length many continuations are tried behind a beginning that the crate refuses.
+const MANY_UP_TO: usize = 4;
+
+/// How much is tried behind this beginning.
+fn tries(text: &[u32]) -> Tries {
+    if text.len() <= MANY_UP_TO {
+        Tries::Many
+    } else {
+        Tries::Digit
+    }
+}
+
+/// Whether the last code point ends every hope: the crate, which said this, refuses the beginning and all that is tried behind it.
+fn dies(text: &[u32], said: &Crate) -> bool {
+    !text.is_empty() && matches!(said, Crate::Length | Crate::Character) && !ask::continues(text, tries(text))
+}
+
+/// Walks a tree of texts; `dead` is the first place at which the beginning can no longer be continued.
+fn walk(worker: &mut Worker, tree: &Tree, text: &mut Vec<u32>, depth: usize, dead: Option<usize>) -> Result<()> {
+    let said = ask::ask(text);
+    let dead = dead.or_else(|| dies(text, &said).then(|| text.len() - 1));
+    if text.len() >= tree.from {
+        visit(worker, text, &said, dead)?;
+    }
+    if depth == 0 {
+        return Ok(());
+    }
+    for &letter in tree.letters {
+        text.push(letter);
+        walk(worker, tree, text, depth - 1, dead)?;
+        text.pop();
+    }
+    Ok(())
+}
+
+/// One text of an exhaustive run: with exactly enough room and, where it is accepted, with one cell less too.
+fn visit(worker: &mut Worker, text: &[u32], said: &Crate, dead: Option<usize>) -> Result<()> {
+    let mark = [0xA7, 0x5C, 0xFF][text.len() % 3];
+    worker.tally.inputs += 1;
+    let need = match said {
+        Crate::Row(row) => row.len(),
+        _ => 35,
+    };
+    if let (Crate::Row(_), Some(place)) = (said, dead) {
+        let expected = format!("refused by the crate, as no beginning up to place {place} is continued");
+        return Err(broken(Subject::Count, text.to_vec(), expected, "accepted by the crate".into()));
+    }
+    if worker.encode_known(text, said, dead.unwrap_or(text.len()), need, mark)? == 0 {
+        worker.encode_known(text, said, 0, need - 1, mark)?;
+    }
+    Ok(())
+}
+
+/// Digits, Ź and a switch, for longer texts in set C.
+const PAIRS: [u32; 4] = [0x30, 0x37, 0x179, 0x181];
+
+/// The trees of the exhaustive run: 0, 1 and 2 of the alphabet; a START and 2 of it; a START and 3, 4 and 5 of the small one;
+/// Ć and 6, 7 and 8 of digits, Ź and a switch.
+fn trees(alphabet: &[u32]) -> Vec<Tree<'_>> {
+    let mut trees = vec![Tree { root: vec![], depth: 0, letters: &[], from: 0 }];
+    trees.extend(alphabet.iter().map(|&one| Tree { root: vec![one], depth: 1, letters: alphabet, from: 1 }));
+    let starts = || SWITCH.into_iter();
+    trees.extend(starts().flat_map(|start| alphabet.iter().map(move |&one| Tree { root: vec![start, one], depth: 1, letters: alphabet, from: 3 })));
+    trees.extend(starts().flat_map(|start| SMALL.iter().map(move |&one| Tree { root: vec![start, one], depth: 2, letters: &SMALL, from: 4 })));
+    let twos = || SMALL.iter().flat_map(|&one| SMALL.iter().map(move |&two| (one, two)));
+    trees.extend(starts().flat_map(|start| twos().map(move |(one, two)| Tree { root: vec![start, one, two], depth: 3, letters: &SMALL, from: 5 })));
+    trees.extend(PAIRS.iter().map(|&one| Tree { root: vec![SWITCH[2], one], depth: 7, letters: &PAIRS, from: 7 }));
+    trees
+}
+
+/// The exhaustive run.
+pub fn all(run: &Run) -> Result<Tally> {
+    let alphabet = inputs::alphabet();
+    let trees = trees(&alphabet);
+    run.blocks(trees.len() as u64, |worker, block| {
+        let tree = &trees[block as usize];
+        let dead = ask::place_from_left(&tree.root, tries(&tree.root)).filter(|&place| !matches!(ask::ask(&tree.root[..=place]), Crate::NoText(_)));
+        walk(worker, tree, &mut tree.root.clone(), tree.depth, dead)
+    })
+}
+
+/// Every value up to 110FFF (hex), alone and after each START.
+pub fn points(run: &Run) -> Result<Tally> {
+    run.blocks(0x111, |worker, block| {
+        for value in (block as u32 * 0x1000..).take(0x1000) {
+            visit_short(worker, &[value])?;
+            SWITCH.iter().try_for_each(|&start| visit_short(worker, &[start, value]))?;
+        }
+        Ok(())
+    })
+}
+
+/// One text, the place of refusal 3 looked for from the left.
+fn visit_short(worker: &mut Worker, text: &[u32]) -> Result<()> {
+    let said = ask::ask(text);
+    let dead = if said == Crate::Character { ask::place_from_left(text, Tries::Digit) } else { None };
+    visit(worker, text, &said, dead)
+}
+
+/// One text with a room that depends on what is needed.
+fn one(worker: &mut Worker, random: &mut Random, text: &[u32]) -> Result<()> {
+    let said = ask::ask(text);
+    let need = match &said {
+        Crate::Row(row) => row.len(),
+        _ => 35 + random.below(12),
+    };
+    let place = place_for(text, &said);
+    worker.tally.inputs += 1;
+    worker.encode_known(text, &said, place, inputs::room(random, need), random.mark()).map(drop)
+}
+
+/// Lengths of the labels of `lengths`: each up to 300, and some far over the limit.
+fn label_lengths() -> Vec<usize> {
+    (1..=300).chain([510, 511, 512, 513, 767, 768, 1000, 2829, 5000]).collect()
+}
+
+/// Labels of every length in every style, with every room close to the limit of the row, and damaged copies.
+pub fn lengths(run: &Run) -> Result<Tally> {
+    let (lengths, alphabet) = (label_lengths(), inputs::alphabet());
+    run.blocks(lengths.len() as u64, |worker, block| {
+        let mut random = Random::new(run.seed, "encode-lengths", block);
+        let n = lengths[block as usize];
+        let copies = if (250..=260).contains(&n) { 8 } else { 1 };
+        for style in STYLES.into_iter().cycle().take(copies * STYLES.len()) {
+            let mut text = inputs::label(&mut random, n, style);
+            let said = ask::ask(&text);
+            worker.tally.inputs += 1;
+            for room in inputs::near(model::cells(n)) {
+                worker.encode_known(&text, &said, 0, room, random.mark())?;
+            }
+            inputs::damage(&mut random, &mut text, &alphabet);
+            one(worker, &mut random, &text)?;
+        }
+        Ok(())
+    })
+}
+
+/// Far more symbols than the limit, accepted, and then refused at some place.
+pub fn far(run: &Run) -> Result<Tally> {
+    let lengths = [6000, 65_535, 65_536, 65_537, 65_536 + 255, 65_536 + 256, 70_000];
+    run.blocks(lengths.len() as u64, |worker, block| {
+        let mut random = Random::new(run.seed, "encode-far", block);
+        let n = lengths[block as usize];
+        let mut text = inputs::label(&mut random, n, inputs::Style::Mixed);
+        worker.tally.inputs += 2;
+        worker.encode(&text, inputs::room(&mut random, 2829), random.mark())?;
+        let place = random.below(n);
+        text.insert(place, 0x20AC);
+        worker.encode(&text, inputs::room(&mut random, 2829), random.mark()).map(drop)
+    })
+}
+
+/// Random texts, good and damaged.
+pub fn random(run: &Run) -> Result<Tally> {
+    let alphabet = inputs::alphabet();
+    run.random_blocks("encode-random", run.random, |worker, random| {
+        let text = inputs::text(random, &alphabet);
+        one(worker, random, &text)
+    })
+}
+
+/// Random accepted texts with Ź inside pairs: moved ahead of the pair, the row is the same; and the other laws of texts.
+pub fn moved(run: &Run) -> Result<Tally> {
+    run.random_blocks("encode-moved", run.random / 20, |worker, random| {
+        let (n, style) = (inputs::symbols(random), if random.chance(70) { inputs::Style::Held } else { random.pick(&STYLES) });
+        let text = inputs::label(random, n, style);
+        worker.tally.inputs += 1;
+        worker.text_law(&text)
+    })
+}
+
+/// The rows met so far and the moved text of each, and the other way round.
+#[derive(Default)]
+struct Met {
+    by_row: HashMap<Vec<u8>, Vec<u32>>,
+    by_moved: HashMap<Vec<u32>, Vec<u8>>,
+}
+
+/// Holds one accepted text against those met: the same row exactly if the same moved text; and the law of texts for short ones.
+fn meet(worker: &mut Worker, met: &mut Met, text: &[u32]) -> Result<()> {
+    let Ok(row) = worker.made_row(text) else { return Ok(()) };
+    let moved = model::moved(text);
+    let by_row = met.by_row.entry(row.clone()).or_insert_with(|| moved.clone());
+    let by_moved = met.by_moved.entry(moved.clone()).or_insert_with(|| row.clone());
+    if *by_row != moved || *by_moved != row {
+        let expected = format!("one row exactly for one moved text: {moved:X?} and {row:?}");
+        return Err(broken(Subject::Count, text.to_vec(), expected, format!("{by_row:X?} and {by_moved:?}")));
+    }
+    worker.tally.inputs += 1;
+    worker.tally.laws += 1;
+    if text.len() > 5 {
+        return Ok(());
+    }
+    worker.text_law(text)
+}
+
+/// Meets every text below this one that can be continued.
+fn meet_below(worker: &mut Worker, met: &mut Met, text: &mut Vec<u32>, depth: usize) -> Result<()> {
+    if !ask::continues(text, Tries::Digit) {
+        return Ok(());
+    }
+    meet(worker, met, text)?;
+    for &letter in SMALL.iter().filter(|_| depth > 0) {
+        text.push(letter);
+        meet_below(worker, met, text, depth - 1)?;
+        text.pop();
+    }
+    Ok(())
+}
+
+/// Two accepted texts of a START and up to 5 of the small alphabet have one row exactly if they have one moved text.
+pub fn shared(run: &Run) -> Result<Tally> {
+    run.blocks(3, |worker, block| meet_below(worker, &mut Met::default(), &mut vec![SWITCH[block as usize]], 5))
+}

@@ -1,0 +1,205 @@
+//! The seven jobs as they are called here: the true face, and wrong ones that show that a run finds what it should.
+use crate::model::{self, Model};
+
+/// Answer number and second number.
+pub type Answer = (u32, usize);
+
+/// The seven jobs on lent slices.
+pub trait Face: Sync {
+    /// Code points to a row.
+    fn encode(&self, text: &[u32], row: &mut [u8]) -> Answer;
+    /// A symbol list to a row.
+    fn draw(&self, list: &[u8], row: &mut [u8]) -> Answer;
+    /// A row to a symbol list.
+    fn read(&self, row: &[u8], list: &mut [u8]) -> Answer;
+    /// A symbol list to code points.
+    fn spell(&self, list: &[u8], text: &mut [u32]) -> Answer;
+    /// A symbol list to the bytes of a scanner.
+    fn scan(&self, list: &[u8], bytes: &mut [u8]) -> Answer;
+    /// A row to a record.
+    fn pack(&self, row: &[u8], record: &mut [u8]) -> Answer;
+    /// A record to a row.
+    fn unpack(&self, record: &[u8], row: &mut [u8]) -> Answer;
+}
+
+/// The library that is compared.
+pub struct True;
+
+/// The two numbers of an answer of the face.
+fn numbers(answer: Result<usize, slatmonief::Refusal>) -> Answer {
+    match answer {
+        Ok(second) => (0, second),
+        Err(refusal) => (refusal.number(), refusal.second()),
+    }
+}
+
+impl Face for True {
+    fn encode(&self, text: &[u32], row: &mut [u8]) -> Answer {
+        numbers(slatmonief::encode(text, row))
+    }
+    fn draw(&self, list: &[u8], row: &mut [u8]) -> Answer {
+        numbers(slatmonief::draw(list, row))
+    }
+    fn read(&self, row: &[u8], list: &mut [u8]) -> Answer {
+        numbers(slatmonief::read(row, list))
+    }
+    fn spell(&self, list: &[u8], text: &mut [u32]) -> Answer {
+        numbers(slatmonief::spell(list, text))
+    }
+    fn scan(&self, list: &[u8], bytes: &mut [u8]) -> Answer {
+        numbers(slatmonief::scan(list, bytes))
+    }
+    fn pack(&self, row: &[u8], record: &mut [u8]) -> Answer {
+        numbers(slatmonief::pack(row, record))
+    }
+    fn unpack(&self, record: &[u8], row: &mut [u8]) -> Answer {
+        numbers(slatmonief::unpack(record, row))
+    }
+}
+
+/// A wrong answer that can be planted.
+#[derive(Clone, Copy, Debug, PartialEq, Eq)]
+pub enum Plant {
+    /// Refusal 3 one place too far, from place 2 on.
+    Place,
+    /// The check of encode with weight i+1 for place i.
+    Weight,
+    /// A refused call of encode writes its first cell.
+    Touched,
+    /// An accepted encode says n + 1, from nine symbols on.
+    Count,
+    /// Read accepts a wrong check.
+    Replaced,
+    /// A digit held when Ź comes is refused.
+    Held,
+    /// Draw writes one cell behind the row.
+    Behind,
+    /// Unpack does not look at the spare bits.
+    Spare,
+    /// Scan takes 99 in set C for a switch and sends nothing.
+    Pair99,
+    /// Encode counts code points for refusal 2.
+    Points,
+    /// Spell asks for one code point more than it needs.
+    Room,
+}
+
+/// Every plant and its name on the command line.
+pub const PLANTS: [(&str, Plant); 11] = [
+    ("place", Plant::Place),
+    ("weight", Plant::Weight),
+    ("touched", Plant::Touched),
+    ("count", Plant::Count),
+    ("replaced", Plant::Replaced),
+    ("held", Plant::Held),
+    ("behind", Plant::Behind),
+    ("spare", Plant::Spare),
+    ("pair99", Plant::Pair99),
+    ("points", Plant::Points),
+    ("room", Plant::Room),
+];
+
+/// The true face with one wrong answer planted in it.
+pub struct Wrong {
+    plant: Plant,
+    model: Model,
+}
+
+impl Wrong {
+    /// A face with this plant.
+    pub fn new(plant: Plant) -> Wrong {
+        Wrong { plant, model: Model::new() }
+    }
+
+    /// Puts the check that weight i+1 gives into an accepted row of n symbols.
+    fn weigh_wrongly(&self, row: &mut [u8], n: usize) {
+        let numbers = row[..11 * n].chunks(11).map(|block| usize::from(self.model.number(block).unwrap_or(0)));
+        let check = numbers.enumerate().map(|(i, number)| number * (i + 1)).sum::<usize>() % 103;
+        row[11 * n..11 * n + 11].copy_from_slice(self.model.pattern(check as u8));
+    }
+
+    /// The row with the check that read calls right.
+    fn with_check(&self, row: &[u8], right: usize) -> Vec<u8> {
+        let mut row = row.to_vec();
+        let place = row.len() - 24;
+        row[place..place + 11].copy_from_slice(self.model.pattern(right as u8));
+        row
+    }
+}
+
+/// The place of the first Ź that stands right behind a first digit after Ć.
+fn held_at(text: &[u32]) -> Option<usize> {
+    (text.first() == Some(&0x106) && text.len() > 2 && (0x30..0x3A).contains(&text[1]) && text[2] == 0x179).then_some(2)
+}
+
+impl Face for Wrong {
+    fn encode(&self, text: &[u32], row: &mut [u8]) -> Answer {
+        let before = row.first().copied();
+        let kept = if self.plant == Plant::Held { row.to_vec() } else { Vec::new() };
+        let answer = True.encode(text, row);
+        match (self.plant, answer) {
+            (Plant::Place, (3, place)) if place >= 2 => (3, place + 1),
+            (Plant::Weight, (0, n)) => {
+                self.weigh_wrongly(row, n);
+                answer
+            }
+            (Plant::Touched, (number, _)) if number != 0 && before.is_some() => {
+                row[0] ^= 1;
+                answer
+            }
+            (Plant::Count, (0, n)) if n >= 9 => (0, n + 1),
+            (Plant::Points, (3, _)) if text.len() < 2 => (2, 0),
+            (Plant::Held, (0, _)) if held_at(text).is_some() => {
+                row.copy_from_slice(&kept);
+                (3, 2)
+            }
+            _ => answer,
+        }
+    }
+
+    fn draw(&self, list: &[u8], row: &mut [u8]) -> Answer {
+        let answer = True.draw(list, row);
+        if let (Plant::Behind, (0, n)) = (self.plant, answer) {
+            if let Some(cell) = row.get_mut(model::cells(n)) {
+                *cell ^= 1;
+            }
+        }
+        answer
+    }
+
+    fn read(&self, row: &[u8], list: &mut [u8]) -> Answer {
+        match (self.plant, True.read(row, list)) {
+            (Plant::Replaced, (14, right)) => True.read(&self.with_check(row, right), list),
+            (_, answer) => answer,
+        }
+    }
+
+    fn spell(&self, list: &[u8], text: &mut [u32]) -> Answer {
+        match (self.plant, True.spell(list, &mut text.to_vec())) {
+            (Plant::Room, (0, need)) if need == text.len() => (5, need + 1),
+            _ => True.spell(list, text),
+        }
+    }
+
+    fn scan(&self, list: &[u8], bytes: &mut [u8]) -> Answer {
+        match (self.plant, list) {
+            (Plant::Pair99, [105, 99, ..]) => True.scan(&[&[105], &list[2..]].concat(), bytes),
+            _ => True.scan(list, bytes),
+        }
+    }
+
+    fn pack(&self, row: &[u8], record: &mut [u8]) -> Answer {
+        True.pack(row, record)
+    }
+
+    fn unpack(&self, record: &[u8], row: &mut [u8]) -> Answer {
+        match (self.plant, True.unpack(record, row)) {
+            (Plant::Spare, (23, last)) => {
+                let mut clean = record.to_vec();
+                clean[last] = 0;
+                True.unpack(&clean, row)
+            }
+            (_, answer) => answer,
+        }
+    }
+}

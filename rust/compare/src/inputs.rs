@@ -1,0 +1,240 @@
+//! The inputs: alphabets, labels, lists, rows, and damaged copies of them.
+use crate::model::{self, Model, FNC1, LIMIT, SWITCH};
+use crate::random::Random;
+
+/// Digits that are not ASCII.
+const OTHER_DIGITS: [u32; 8] = [0x660, 0x661, 0x669, 0xFF10, 0xFF11, 0xFF19, 0xB2, 0x967];
+/// Values that are no scalar values.
+const NO_SCALARS: [u32; 4] = [0xD800, 0xDFFF, 0x11_0000, 0xFFFF_FFFF];
+/// Where the number of UTF-8 bytes changes, and the ends of what is a scalar value.
+const EDGES: [u32; 9] = [0x7F, 0x80, 0x7FF, 0x800, 0xD7FF, 0xE000, 0xFFFF, 0x1_0000, 0x10_FFFF];
+/// The named letters.
+const NAMED: [u32; 8] = [0xC0, 0x181, 0x106, 0x179, 0x17A, 0x17B, 0x17C, 0x17D];
+/// A small alphabet for longer exhaustive runs.
+pub const SMALL: [u32; 14] = [0x30, 0x31, 0x39, 0x41, 0x61, 0x1F, 0x20, 0x5F, 0xC0, 0x181, 0x106, 0x179, 0x17D, 0x17C];
+
+/// Every code point that has a number in a set, with its neighbours, and what is worth trying besides.
+pub fn alphabet() -> Vec<u32> {
+    let mut points: Vec<u32> = (0..=0x7E).chain([0xF6, 0xF7, 0xF8]).collect();
+    points.extend(NAMED.iter().flat_map(|&named| named - 1..=named + 1));
+    points.extend(EDGES.iter().chain(&OTHER_DIGITS).chain(&NO_SCALARS));
+    points.sort_unstable();
+    points.dedup();
+    points
+}
+
+/// What a label is made of.
+#[derive(Clone, Copy, Debug, PartialEq, Eq)]
+pub enum Style {
+    /// Set A only.
+    A,
+    /// Set B only.
+    B,
+    /// Set C only.
+    C,
+    /// All three, with switches.
+    Mixed,
+    /// Set C, with Ź between the digits of many pairs.
+    Held,
+}
+
+/// Every style.
+pub const STYLES: [Style; 5] = [Style::A, Style::B, Style::C, Style::Mixed, Style::Held];
+
+/// A label of exactly n symbols, n at least 1.
+pub fn label(random: &mut Random, n: usize, style: Style) -> Vec<u32> {
+    let mut set = match style {
+        Style::A => 0,
+        Style::B => 1,
+        Style::C | Style::Held => 2,
+        Style::Mixed => random.below(3),
+    };
+    let (mut text, mut left) = (vec![SWITCH[set]], n - 1);
+    while left > 0 {
+        if style == Style::Mixed && random.chance(15) {
+            set = (set + 1 + random.below(2)) % 3;
+            text.push(SWITCH[set]);
+            left -= 1;
+        } else if set == 2 {
+            left -= in_c(random, &mut text, left, style);
+        } else {
+            text.push(ordinary(random, set));
+            left -= 1;
+        }
+    }
+    text
+}
+
+/// A Ź or a pair in set C, with up to three Ź between its digits; answers the symbols that it makes.
+fn in_c(random: &mut Random, text: &mut Vec<u32>, left: usize, style: Style) -> usize {
+    if random.chance(5) {
+        text.push(FNC1);
+        return 1;
+    }
+    let often = match style {
+        Style::Held => 40,
+        Style::Mixed => 10,
+        _ => 0,
+    };
+    let between = if random.chance(often) { (1 + random.below(3)).min(left - 1) } else { 0 };
+    text.push(0x30 + random.below(10) as u32);
+    text.extend(vec![FNC1; between]);
+    text.push(0x30 + random.below(10) as u32);
+    1 + between
+}
+
+/// A code point that has a number in set A or B and is no switch.
+fn ordinary(random: &mut Random, set: usize) -> u32 {
+    if random.chance(10) {
+        return random.pick(&NAMED[3..]);
+    }
+    match (set, random.below(96) as u32) {
+        (0, value) => value,
+        (_, 95) => 0xF7,
+        (_, value) => 0x20 + value,
+    }
+}
+
+/// How long a random label is: mostly short, some long, a few close to the limit.
+pub fn symbols(random: &mut Random) -> usize {
+    match random.below(1000) {
+        0..=919 => 1 + random.below(9),
+        920..=987 => 10 + random.below(30),
+        988..=995 => 40 + random.below(160),
+        996 | 997 => 200 + random.below(100),
+        _ => 250 + random.below(12),
+    }
+}
+
+/// A random text: a good label, a damaged one (fewer of the long ones, as the place of refusal 3 takes the crate long there), or code
+/// points of the alphabet as they come.
+pub fn text(random: &mut Random, alphabet: &[u32]) -> Vec<u32> {
+    let kind = random.below(100);
+    if kind < 6 {
+        return letters(random, alphabet);
+    }
+    let (n, style) = (symbols(random), random.pick(&STYLES));
+    let mut text = label(random, n, style);
+    if kind < if n <= 40 { 45 } else { 15 } {
+        for _ in 0..1 + random.below(8) / 5 {
+            damage(random, &mut text, alphabet);
+        }
+    }
+    text
+}
+
+/// Code points of the alphabet or of the small one as they come, mostly after a START.
+fn letters(random: &mut Random, alphabet: &[u32]) -> Vec<u32> {
+    let from = if random.chance(50) { alphabet } else { &SMALL };
+    let mut text: Vec<u32> = (0..random.below(9)).map(|_| random.pick(from)).collect();
+    if random.chance(80) {
+        text.insert(0, random.pick(&SWITCH));
+    }
+    text
+}
+
+/// One damage: replaced, removed, doubled, swapped, cut, or something put in.
+pub fn damage(random: &mut Random, text: &mut Vec<u32>, alphabet: &[u32]) {
+    if text.is_empty() {
+        return;
+    }
+    let place = random.below(text.len());
+    let next = (place + 1).min(text.len() - 1);
+    match random.below(10) {
+        0 | 1 => text[place] = random.pick(alphabet),
+        2 => drop(text.remove(place)),
+        3 => text.insert(place, text[place]),
+        4 => text.swap(place, next),
+        5 => text.truncate(place + 1),
+        6 => text.insert(place, random.pick(&OTHER_DIGITS)),
+        7 => text.insert(place, random.pick(&SWITCH)),
+        8 => text.insert(place, 0x30 + random.below(10) as u32),
+        _ if random.chance(30) => text.insert(place, random.pick(&NO_SCALARS)),
+        _ => text.insert(place, random.pick(&[FNC1, 0x17D, 0xF7, 0x7F, 0x61, 0x1F])),
+    }
+}
+
+/// A symbol list of length n that may be drawn; the special numbers come often.
+pub fn list(random: &mut Random, n: usize) -> Vec<u8> {
+    let special = random.below(60);
+    let data = |random: &mut Random| if random.chance(special) { 94 + random.below(9) } else { random.below(103) };
+    (0..n).map(|place| if place == 0 { 103 + random.below(3) } else { data(random) } as u8).collect()
+}
+
+/// One damage of a list.
+pub fn damage_list(random: &mut Random, list: &mut Vec<u8>) {
+    if list.is_empty() {
+        return;
+    }
+    let place = random.below(list.len());
+    match random.below(6) {
+        0 => list[place] = random.byte(),
+        1 => list[place] = 100 + random.below(8) as u8,
+        2 => drop(list.remove(place)),
+        3 => list.insert(place, random.byte()),
+        4 => list.swap(0, place),
+        _ => list.extend(vec![random.byte(); random.below(300)]),
+    }
+}
+
+/// One damage of a row: a cell, a block, the check, the stop or the length.
+pub fn damage_row(random: &mut Random, model: &Model, row: &mut Vec<u8>) {
+    if row.len() < 35 {
+        return;
+    }
+    let (cell, blocks) = (random.below(row.len()), (row.len() - 13) / 11);
+    let (one, other) = (random.below(blocks), random.below(blocks));
+    let block = 11 * random.pick(&[0, blocks - 1, one, other]);
+    match random.below(12) {
+        0 | 1 => row[cell] ^= 1,
+        2 => row[cell] = random.pick(&[2, 3, 128, 254, 255]),
+        3..=6 => row[block..block + 11].copy_from_slice(model.pattern(random.below(106) as u8)),
+        7 => row[block..block + 11].copy_from_slice(&model::STOP[..11]),
+        8 => row[block + random.below(11)] ^= 1,
+        9 | 10 => {
+            let stop = row.len() - 1 - random.below(13);
+            row[stop] ^= 1;
+        }
+        _ => resize(random, row),
+    }
+}
+
+/// A row of another length: some cells less or more.
+fn resize(random: &mut Random, row: &mut Vec<u8>) {
+    let by = random.pick(&[1, 2, 10, 11, 12, 13, 22]);
+    if random.chance(50) {
+        row.truncate(row.len().saturating_sub(by));
+    } else {
+        row.extend((0..by).map(|i| (i % 2) as u8));
+    }
+}
+
+/// Random cells of a possible length.
+pub fn cells(random: &mut Random, n: usize) -> Vec<u8> {
+    (0..model::cells(n)).map(|_| (random.bits() >> 63) as u8).collect()
+}
+
+/// How long a random list or row is.
+pub fn length(random: &mut Random) -> usize {
+    symbols(random).min(LIMIT)
+}
+
+/// Buffer lengths close to what is needed.
+pub fn near(need: usize) -> Vec<usize> {
+    let mut rooms = vec![0, need / 2, need.saturating_sub(2), need.saturating_sub(1), need, need + 1, need + 2, need + 64];
+    rooms.sort_unstable();
+    rooms.dedup();
+    rooms
+}
+
+/// A random buffer length, mostly close to what is needed.
+pub fn room(random: &mut Random, need: usize) -> usize {
+    match random.below(20) {
+        0 => 0,
+        1..=3 => need.saturating_sub(1),
+        4..=11 => need,
+        12..=16 => need + 1 + random.below(40),
+        17 | 18 => random.below(need + 50),
+        _ => 2829 + random.below(40),
+    }
+}

@@ -1,0 +1,307 @@
+//! A plain model of six jobs, written from document 01. The patterns are drawn out of the crate's rows.
+use crate::ask;
+
+/// What a job must say: answer number, second number, and the elements at the front of the buffer (none for a refusal).
+#[derive(Clone, Debug, PartialEq, Eq)]
+pub struct Said<T> {
+    /// 0, or the number of the refusal.
+    pub number: u32,
+    /// The second number.
+    pub second: usize,
+    /// What is written; all else is as lent.
+    pub front: Vec<T>,
+}
+
+/// An accepted call.
+pub fn accept<T>(second: usize, front: Vec<T>) -> Said<T> {
+    Said { number: 0, second, front }
+}
+
+/// A refused call.
+pub fn refuse<T>(number: u32, second: usize) -> Said<T> {
+    Said { number, second, front: Vec::new() }
+}
+
+/// An accepted call, or refusal 5 where the room is too short for the front.
+fn in_room<T>(room: usize, second: usize, front: Vec<T>) -> Said<T> {
+    if room < front.len() {
+        return refuse(5, front.len());
+    }
+    accept(second, front)
+}
+
+/// The limit of n.
+pub const LIMIT: usize = 255;
+/// The stop, as document 01 writes it.
+pub const STOP: [u8; 13] = [1, 1, 0, 0, 0, 1, 1, 1, 0, 1, 0, 1, 1];
+/// The code points of the numbers 96 to 102 in set B.
+const FUNCTIONS_B: [u32; 7] = [0x17B, 0x17A, 0x17D, 0x106, 0x17C, 0xC0, 0x179];
+/// The switches: À, Ɓ and Ć, for the sets 0, 1 and 2 (A, B and C).
+pub const SWITCH: [u32; 3] = [0xC0, 0x181, 0x106];
+/// Ź, which is FNC1.
+pub const FNC1: u32 = 0x179;
+
+/// The cells of a row of n symbols.
+pub fn cells(n: usize) -> usize {
+    11 * (n + 1) + 13
+}
+
+/// The bytes of a record of n symbols.
+pub fn record_bytes(n: usize) -> usize {
+    2 + (11 * n + 24).div_ceil(8)
+}
+
+/// The n of a row of this length, where the limit allows one.
+fn symbols_of(length: usize) -> Option<usize> {
+    (1..=LIMIT).contains(&(length.saturating_sub(24) / 11)).then(|| (length - 24) / 11).filter(|&n| cells(n) == length)
+}
+
+/// The check: number times weight, modulo 103; START and place 1 weigh 1, place i weighs i.
+pub fn check(list: &[u8]) -> u8 {
+    let sum: usize = list.iter().enumerate().map(|(i, &number)| usize::from(number) * i.max(1)).sum();
+    (sum % 103) as u8
+}
+
+/// Refusals 10 and 13 of a symbol list.
+fn list_refused(list: &[u8]) -> Option<(u32, usize)> {
+    if list.is_empty() || list.len() > LIMIT {
+        return Some((10, list.len()));
+    }
+    list.iter().enumerate().position(|(i, &number)| !may_stand(number, i)).map(|place| (13, place))
+}
+
+/// Whether a number may stand at this place: a START at 0, a number up to 102 after it.
+fn may_stand(number: u8, place: usize) -> bool {
+    if place == 0 {
+        (103..=105).contains(&number)
+    } else {
+        number <= 102
+    }
+}
+
+/// Set A is 0, B is 1, C is 2: the set that holds after this symbol.
+fn set_after(set: usize, place: usize, number: u8) -> usize {
+    match (place, number, set) {
+        (0, start, _) => usize::from(start - 103),
+        (_, 99, 0 | 1) => 2,
+        (_, 100, 0 | 2) => 1,
+        (_, 101, 1 | 2) => 0,
+        _ => set,
+    }
+}
+
+/// The code points of a data number in a set.
+fn spelled(set: usize, number: u8, text: &mut Vec<u32>) {
+    let value = u32::from(number);
+    match (set, number) {
+        (2, 0..=99) => text.extend([0x30 + value / 10, 0x30 + value % 10]),
+        (2, 100) | (0, 100) => text.push(SWITCH[1]),
+        (2, 101) | (1, 101) => text.push(SWITCH[0]),
+        (_, 102) => text.push(FNC1),
+        (0, 0..=63) => text.push(0x20 + value),
+        (0, 64..=95) => text.push(value - 64),
+        (1, 0..=94) => text.push(0x20 + value),
+        (1, 95) => text.push(0xF7),
+        (_, 96) => text.push(0x17B),
+        (_, 97) => text.push(0x17A),
+        (_, 98) => text.push(0x17D),
+        (_, 99) => text.push(SWITCH[2]),
+        _ => text.push(0x17C),
+    }
+}
+
+/// The bytes that a scanner sends for a data number in a set.
+fn sent(set: usize, number: u8, bytes: &mut Vec<u8>) {
+    match (set, number) {
+        (2, 0..=99) => bytes.extend([b'0' + number / 10, b'0' + number % 10]),
+        (0, 0..=63) | (1, 0..=95) => bytes.push(number + 32),
+        (0, 64..=95) => bytes.push(number - 64),
+        _ => {}
+    }
+}
+
+/// The text with every Ź that stands inside a pair moved ahead of that pair. The text is one that the crate accepts.
+pub fn moved(text: &[u32]) -> Vec<u32> {
+    let (mut out, mut in_c, mut held) = (Vec::with_capacity(text.len()), false, None);
+    for &point in text {
+        if SWITCH.contains(&point) {
+            in_c = point == SWITCH[2];
+        }
+        let digit = in_c && (0x30..0x3A).contains(&point);
+        match (digit, held) {
+            (true, None) => held = Some(point),
+            (true, Some(first)) => {
+                out.extend([first, point]);
+                held = None;
+            }
+            _ => out.push(point),
+        }
+    }
+    out
+}
+
+/// The patterns, and the numbers by pattern.
+pub struct Model {
+    patterns: Vec<[u8; 11]>,
+    numbers: Vec<Option<u8>>,
+}
+
+/// A text of the crate with this number in it, and the block where it stands.
+fn text_with(number: u8) -> (Vec<u32>, usize) {
+    match number {
+        0..=94 => (vec![SWITCH[1], 0x20 + u32::from(number)], 1),
+        95 => (vec![SWITCH[1], 0xF7], 1),
+        96..=102 => (vec![SWITCH[1], FUNCTIONS_B[usize::from(number - 96)]], 1),
+        _ => (vec![SWITCH[usize::from(number - 103)]], 0),
+    }
+}
+
+/// Eleven cells as a word, first cell on top; `None` if one is neither 0 nor 1.
+fn word(block: &[u8]) -> Option<usize> {
+    block.iter().try_fold(0, |word, &cell| (cell <= 1).then(|| 2 * word + usize::from(cell)))
+}
+
+impl Default for Model {
+    fn default() -> Model {
+        Model::new()
+    }
+}
+
+impl Model {
+    /// Draws the 106 patterns out of the crate.
+    pub fn new() -> Model {
+        let mut model = Model { patterns: Vec::new(), numbers: vec![None; 2048] };
+        for number in 0..106 {
+            let (text, block) = text_with(number);
+            let row = ask::row(&text).expect("the crate accepts the texts that show the patterns");
+            let pattern: [u8; 11] = row[11 * block..11 * block + 11].try_into().expect("eleven cells");
+            let place = word(&pattern).expect("cells are 0 or 1");
+            assert!(model.numbers[place].is_none(), "two numbers have one pattern");
+            model.numbers[place] = Some(number);
+            model.patterns.push(pattern);
+        }
+        model
+    }
+
+    /// The pattern of a number.
+    pub fn pattern(&self, number: u8) -> &[u8; 11] {
+        &self.patterns[usize::from(number)]
+    }
+
+    /// The number of eleven cells.
+    pub fn number(&self, block: &[u8]) -> Option<u8> {
+        word(block).and_then(|word| self.numbers[word])
+    }
+
+    /// The row of these blocks, whatever they are, and the stop.
+    pub fn row(&self, blocks: &[u8]) -> Vec<u8> {
+        let mut row: Vec<u8> = Vec::with_capacity(11 * blocks.len() + 13);
+        for &number in blocks {
+            row.extend(self.pattern(number));
+        }
+        row.extend(STOP);
+        row
+    }
+
+    /// The row of a list that may be drawn, with its check.
+    pub fn row_of_list(&self, list: &[u8]) -> Vec<u8> {
+        let mut blocks = list.to_vec();
+        blocks.push(check(list));
+        self.row(&blocks)
+    }
+
+    /// Draw: 10, 13, 5.
+    pub fn draw(&self, list: &[u8], room: usize) -> Said<u8> {
+        match list_refused(list) {
+            Some((number, second)) => refuse(number, second),
+            None => in_room(room, list.len(), self.row_of_list(list)),
+        }
+    }
+
+    /// Spell: 10, 13, 5.
+    pub fn spell(&self, list: &[u8], room: usize) -> Said<u32> {
+        if let Some((number, second)) = list_refused(list) {
+            return refuse(number, second);
+        }
+        let mut set = set_after(0, 0, list[0]);
+        let mut text = vec![SWITCH[set]];
+        for (place, &number) in list.iter().enumerate().skip(1) {
+            spelled(set, number, &mut text);
+            set = set_after(set, place, number);
+        }
+        in_room(room, text.len(), text)
+    }
+
+    /// Scan: 10, 13, 5.
+    pub fn scan(&self, list: &[u8], room: usize) -> Said<u8> {
+        if let Some((number, second)) = list_refused(list) {
+            return refuse(number, second);
+        }
+        let mut set = set_after(0, 0, list[0]);
+        let mut bytes = Vec::new();
+        for (place, &number) in list.iter().enumerate().skip(1) {
+            sent(set, number, &mut bytes);
+            set = set_after(set, place, number);
+        }
+        in_room(room, bytes.len(), bytes)
+    }
+
+    /// Read: 10, 11, then 12 before 13 for each block from the left, then 15, 14, 5.
+    pub fn read(&self, row: &[u8], room: usize) -> Said<u8> {
+        let Some(n) = symbols_of(row.len()) else { return refuse(10, row.len()) };
+        if let Some(place) = row.iter().position(|&cell| cell > 1) {
+            return refuse(11, place);
+        }
+        let mut list = Vec::with_capacity(n + 1);
+        for (place, block) in row[..11 * (n + 1)].chunks(11).enumerate() {
+            match self.number(block) {
+                None => return refuse(12, place),
+                Some(number) if !may_stand(number, place) => return refuse(13, place),
+                Some(number) => list.push(number),
+            }
+        }
+        if let Some(wrong) = (0..13).find(|&i| row[11 * (n + 1) + i] != STOP[i]) {
+            return refuse(15, 11 * (n + 1) + wrong);
+        }
+        let given = list.pop();
+        let right = check(&list);
+        if given != Some(right) {
+            return refuse(14, usize::from(right));
+        }
+        in_room(room, n, list)
+    }
+
+    /// Pack: 10, 11, 5.
+    pub fn pack(&self, row: &[u8], room: usize) -> Said<u8> {
+        let Some(n) = symbols_of(row.len()) else { return refuse(10, row.len()) };
+        if let Some(place) = row.iter().position(|&cell| cell > 1) {
+            return refuse(11, place);
+        }
+        let mut record = vec![1, n as u8];
+        record.extend(row.chunks(8).map(|eight| eight.iter().enumerate().map(|(i, &cell)| cell * (128 >> i)).sum::<u8>()));
+        in_room(room, record.len(), record)
+    }
+
+    /// Unpack: 20, 21, 22, 23, 5.
+    pub fn unpack(&self, record: &[u8], room: usize) -> Said<u8> {
+        if record.len() < 2 {
+            return refuse(20, record.len());
+        }
+        if record[0] != 1 {
+            return refuse(21, usize::from(record[0]));
+        }
+        let n = usize::from(record[1]);
+        if n == 0 {
+            return refuse(22, 0);
+        }
+        if record.len() != record_bytes(n) {
+            return refuse(22, record_bytes(n));
+        }
+        let mut row: Vec<u8> = record[2..].iter().flat_map(|&byte| (0..8).map(move |i| (byte >> (7 - i)) & 1)).collect();
+        if row[cells(n)..].contains(&1) {
+            return refuse(23, record.len() - 1);
+        }
+        row.truncate(cells(n));
+        in_room(room, row.len(), row)
+    }
+}
