@@ -9,14 +9,16 @@ use native.Mathlib.Omega.{arith}
 use lib.Dec.{leb, ltb}
 use lib.ListN.{length, getD, take, drop}
 use borrow.Author.Tests.{lt-ltb, le-ltb, le-leb, lt-leb}
-use Rattle.paper.specs.Answers.{if_then_else_, refuse, accept, _then_, ask, into}
+use Rattle.paper.specs.Answers.{if_then_else_, refuse, accept, Test, refuses, passes, _then_, ask, noneBad, into}
 use Rattle.paper.specs.Iso15417.{row}
 use Rattle.paper.specs.Crate.{utf8Of, utf8Bytes, noScalar, Parsed, stops, symbols, parse}
 use Rattle.paper.specs.Jobs.{most, SymbolList, parsed, encode}
 use Rattle.paper.proofs.Spelling.{parse-form}
+use Rattle.paper.proofs.Encoding.{encode-parsed}
 use Rattle.helpers.specs.First.{firstBad}
 use Rattle.helpers.proofs.Seek.{none-bad-refuses, none-bad-passes}
 use Rattle.helpers.proofs.Writes.{sets-prefix}
+use Rattle.code128.specs.Stopped.{stoppedAt}
 use Rattle.code128.specs.Tokens.{counted, Tokens}
 use Rattle.code128.specs.declared.parse.Parsed as Code
 use Rattle.code128.specs.declared.parse.Parsed.the-variants.{Stops, Symbols}
@@ -77,39 +79,47 @@ told-symbols (symbols s) n e = (s, refl, cc)
 
 -- ---- encode
 
-pub encode-scalar : (room : ℕ) (x : List ℕ) → firstBad noScalar 0 x < length x → encode room x ≡ refuse 1 (firstBad noScalar 0 x)
-unfolding encode _then_ into
-encode-scalar room x h = rw (none-bad-refuses noScalar 1 0 x (omega arith))
+-- two tests and a refusal need no room
+into-two : (t u : Test) (room k m : ℕ) → into room (t then u then refuse k m) ≡ (t then u then refuse k m)
+unfolding _then_ into
+into-two (refuses j l) u room k m = refl
+into-two passes (refuses j l) room k m = refl
+into-two passes passes room k m = refl
+
+pub encode-stops : (room : ℕ) (x : List ℕ) (at : ℕ) → counted (parse x) ≡ Stops at → encode room x ≡ stoppedAt x at
+unfolding encode parsed stoppedAt
+encode-stops room x at e = rw (told-stops (parse x) at e) (into-two (noneBad noScalar 1 0 x) (ask (leb 2 (utf8Bytes x)) 2 0) room 3 at)
+
+pub encode-long : (room : ℕ) (x : List ℕ) (n : ℕ) → counted (parse x) ≡ Symbols n → 255 < n → encode room x ≡ refuse 4 n
+unfolding most ask _then_ into
+encode-long room x n e h =
+    let (s, f, count) = told-symbols (parse x) n e in
+    encode-parsed room x s f ∙ rw (lt-leb (length s) 255 (omega arith)) (ap (refuse 4) (sym count))
 
 -- a text that parses within the limit: its symbols, and what encode answers
 pub record Fitting (x s : List ℕ) : Type 0 where
   pub proper : SymbolList s
   pub draws : (room : ℕ) → encode room x ≡ into room (accept (length s) (row s))
 
-module _ (x : List ℕ) (scalars : length x ≤ firstBad noScalar 0 x) where
-  pub encode-bytes : (room : ℕ) → leb 2 (utf8Bytes x) ≡ false → encode room x ≡ refuse 2 0
-  unfolding encode _then_ ask into
-  encode-bytes room e = rw (none-bad-passes noScalar 1 0 x (omega arith), e)
+-- within the limit the symbols stand in the front of the list that they were stored into
+pub encode-fits : {r : Code.Parsed} {l m : List ℕ} (x : List ℕ) (n : ℕ) → Tokens (parse x) r l m → r ≡ Symbols n → n ≤ 255 → 255 ≤ length l → Fitting x (take (n - 0) (drop 0 m))
+unfolding most ask _then_
+encode-fits {r} {l} {m} x n t e h long =
+    let (s, f, count) = told-symbols (parse x) n (sym (t .result) ∙ e) in
+    let front : take (n - 0) (drop 0 m) ≡ s = rw (sub-zero n, t .stored s f) (sets-prefix l s n count (omega arith)) in
+    rw front (record { proper = record { form = parse-form x s f; size = omega arith }; draws = λ room. encode-parsed room x s f ∙ rw (le-leb (length s) 255 (omega arith)) refl })
 
-  module _ (bytes : leb 2 (utf8Bytes x) ≡ true) where
-    encode-parses : (room : ℕ) (p : Parsed) → parse x ≡ p → encode room x ≡ into room (parsed p (λ s. ask (leb (length s) most) 4 (length s) then accept (length s) (row s)))
-    unfolding encode _then_ ask
-    encode-parses room p e = rw (none-bad-passes noScalar 1 0 x (omega arith), bytes, e)
+-- ---- where parsing stops
 
-    pub encode-stops : (room at : ℕ) → counted (parse x) ≡ Stops at → encode room x ≡ refuse 3 at
-    unfolding parsed into
-    encode-stops room at e = encode-parses room (stops at) (told-stops (parse x) at e)
+module _ (x : List ℕ) (at : ℕ) where
+  pub stopped-scalar : firstBad noScalar 0 x < length x → stoppedAt x at ≡ refuse 1 (firstBad noScalar 0 x)
+  unfolding stoppedAt _then_
+  stopped-scalar h = rw (none-bad-refuses noScalar 1 0 x (omega arith))
 
-    pub encode-long : (room n : ℕ) → counted (parse x) ≡ Symbols n → 255 < n → encode room x ≡ refuse 4 n
-    unfolding parsed most ask _then_ into
-    encode-long room n e h =
-        let (s, f, count) = told-symbols (parse x) n e in
-        encode-parses room (symbols s) f ∙ rw (lt-leb (length s) 255 (omega arith)) (ap (refuse 4) (sym count))
+  pub stopped-bytes : length x ≤ firstBad noScalar 0 x → leb 2 (utf8Bytes x) ≡ false → stoppedAt x at ≡ refuse 2 0
+  unfolding stoppedAt _then_ ask
+  stopped-bytes h e = rw (none-bad-passes noScalar 1 0 x (omega arith), e)
 
-    -- within the limit the symbols stand in the front of the list that they were stored into
-    pub encode-fits : {r : Code.Parsed} {l m : List ℕ} (n : ℕ) → Tokens (parse x) r l m → r ≡ Symbols n → n ≤ 255 → 255 ≤ length l → Fitting x (take (n - 0) (drop 0 m))
-    unfolding parsed most ask _then_
-    encode-fits {r} {l} {m} n t e h long =
-        let (s, f, count) = told-symbols (parse x) n (sym (t .result) ∙ e) in
-        let front : take (n - 0) (drop 0 m) ≡ s = rw (sub-zero n, t .stored s f) (sets-prefix l s n count (omega arith)) in
-        rw front (record { proper = record { form = parse-form x s f; size = omega arith }; draws = λ room. encode-parses room (symbols s) f ∙ rw (le-leb (length s) 255 (omega arith)) refl })
+  pub stopped-there : length x ≤ firstBad noScalar 0 x → leb 2 (utf8Bytes x) ≡ true → stoppedAt x at ≡ refuse 3 at
+  unfolding stoppedAt _then_ ask
+  stopped-there h e = rw (none-bad-passes noScalar 1 0 x (omega arith), e)

@@ -1,39 +1,35 @@
 -- The constants are the paper's, and a row is stored part by part.
 -- Assumes nothing.
-use Prim.Native.Nat.{ℕ, _+_, _-_, _*_, _<_}
+use Prim.Native.Nat.{ℕ, _+_, _*_, _<_}
 use mathlib.Core.Path.{_≡_, refl, sym, ap, _∙_}
 use mathlib.Core.List.{List, [], _∷_, _++_, append-nil, append-assoc}
 use native.Mathlib.Omega.{arith}
-use lib.ListN.{length, take, drop, length-append}
+use lib.ListN.{length, getD, length-append}
 use lib.Seq.{sets}
 use borrow.Author.Tests.{lt-leb}
 use Rattle.paper.specs.Answers.{Each, refuse, accept, into}
-use Rattle.paper.specs.Chars.{chars, entry}
-use Rattle.paper.specs.Iso15417.{iso15417-computes, pattern, stop, check, cells, row}
-use Rattle.paper.specs.Jobs.{SymbolList}
-use Rattle.paper.proofs.Table.{table-length, table-pattern, length-pattern}
+use Rattle.paper.specs.Iso15417.{iso15417-computes, pattern, stop, same, check, cells, row}
+use Rattle.paper.specs.Jobs.{SymbolList, bits}
+use Rattle.paper.proofs.Below.{at}
+use Rattle.paper.proofs.Table.{as-same, length-pattern}
 use Rattle.paper.proofs.Cells.{Number, cells-append, length-cells, check-small, row-numbers}
-use Rattle.helpers.specs.Joined.{blockOf, joined}
-use Rattle.helpers.proofs.Joins.{block-whole}
 use Rattle.helpers.proofs.Writes.{sets-then}
+use Rattle.code128.specs.Words.{wordsFrom, words, lowBytes, quadsFrom, quads, spreadOf}
 
 -- ---- the constants
 
--- the part of the table that is the entry of a number is its pattern
-pub part-pattern : (m : ℕ) → m < 106 → take (11 * m + 11 - 11 * m) (drop (11 * m) chars) ≡ pattern m
-unfolding entry
-part-pattern m h =
-    let eleven : 11 * m + 11 - 11 * m ≡ 11 = omega arith in
-    rw eleven (table-pattern m h)
+pub length-words : length words ≡ 106
+unfolding words wordsFrom
+length-words = refl
 
-pub block-pattern : (m : ℕ) → m < 106 → blockOf chars m ≡ pattern m
-unfolding entry
-block-pattern m h = block-whole chars m (omega (arith, table-length)) ∙ table-pattern m h
+pub length-quads : length quads ≡ 16
+unfolding quads quadsFrom
+length-quads = refl
 
-pub joined-cells : (s : List ℕ) → Each Number s → joined chars s ≡ cells s
-unfolding joined cells
-joined-cells [] a = refl
-joined-cells (x ∷ s) a = rw (block-pattern x (a .0), joined-cells s (a .1))
+-- the cells of each word are its number's pattern
+pub word-pattern : (m : ℕ) → m < 106 → spreadOf (getD words m 0) ≡ pattern m
+unfolding iso15417-computes bits words wordsFrom quads quadsFrom lowBytes spreadOf
+word-pattern m h = as-same (spreadOf (getD words m 0)) (pattern m) (at (λ x. same (spreadOf (getD words x 0)) (pattern x)) 106 tt m h)
 
 -- `STOP` and `TERM`
 abbrev pub stopCells : List ℕ
@@ -57,29 +53,27 @@ pub row-parts : (s : List ℕ) → row s ≡ ((cells s ++ pattern (check s)) ++ 
 unfolding row cells
 row-parts s = rw (cells-append s (check s ∷ []), append-nil, ← stop-parts) (sym (append-assoc (cells s ++ pattern (check s)) stopCells termCells))
 
-stored-then : (u v l l₁ l₂ : List ℕ) (k : ℕ) → l₁ ≡ sets l 0 u → l₂ ≡ sets l₁ k v → k ≡ length u → l₂ ≡ sets l 0 (u ++ v)
+pub stored-then : (u v l l₁ l₂ : List ℕ) (k : ℕ) → l₁ ≡ sets l 0 u → l₂ ≡ sets l₁ k v → k ≡ length u → l₂ ≡ sets l 0 (u ++ v)
 stored-then u v l l₁ l₂ k a b e = b ∙ ap (λ (x : List ℕ). sets x k v) a ∙ sets-then u v l 0 k (omega arith)
 
 module _ (s : List ℕ) (proper : SymbolList s) where
-  payload-numbers : Each Number s
+  pub payload-numbers : Each Number s
   payload-numbers = each-left Number s (check s ∷ []) (row-numbers s proper)
 
-  -- the payload, the check's entry, `STOP` and `TERM`, stored one behind the other
-  pub row-stored : (table l l₁ l₂ l₃ l₄ : List ℕ) (k : ℕ) → table ≡ chars → k ≡ check s
-      → l₁ ≡ sets l 0 (joined table s)
-      → l₂ ≡ sets l₁ (11 * length s) (take (11 * k + 11 - 11 * k) (drop (11 * k) table))
+  -- the payload, the check's word, `STOP` and `TERM`, stored one behind the other
+  pub row-stored : (l l₁ l₂ l₃ l₄ : List ℕ)
+      → l₁ ≡ sets l 0 (cells s)
+      → l₂ ≡ sets l₁ (11 * length s) (pattern (check s))
       → l₃ ≡ sets l₂ (11 * length s + 11) stopCells
       → l₄ ≡ sets l₃ (11 * length s + 22) termCells
       → l₄ ≡ sets l 0 (row s)
-  row-stored table l l₁ l₂ l₃ l₄ k t e a b c d =
+  row-stored l l₁ l₂ l₃ l₄ a b c d =
       let small : check s < 106 = omega (arith, check-small s) in
       let long = length-cells s payload-numbers in
       let eleven = length-pattern (check s) small in
       let wide = length-append (cells s) (pattern (check s)) in
       let behind = length-append (cells s ++ pattern (check s)) stopCells in
-      let payload : l₁ ≡ sets l 0 (cells s) = a ∙ rw (t, joined-cells s payload-numbers) refl in
-      let entry-of : l₂ ≡ sets l₁ (11 * length s) (pattern (check s)) = b ∙ rw (t, e, part-pattern (check s) small) refl in
-      let checked = stored-then (cells s) (pattern (check s)) l l₁ l₂ (11 * length s) payload entry-of (omega arith) in
+      let checked = stored-then (cells s) (pattern (check s)) l l₁ l₂ (11 * length s) a b (omega arith) in
       let stopped = stored-then (cells s ++ pattern (check s)) stopCells l l₂ l₃ (11 * length s + 11) checked c (omega arith) in
       rw (row-parts s) (stored-then ((cells s ++ pattern (check s)) ++ stopCells) termCells l l₃ l₄ (11 * length s + 22) stopped d (omega arith))
 

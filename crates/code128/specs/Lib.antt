@@ -1,2 +1,4 @@
 pub mod Sets
 pub mod Tokens
+pub mod Words
+pub mod Stopped

@@ -1,14 +1,17 @@
 // Code 128 after `src/sym/code128.rs` of barcoders 2.0.0: the table, the character sets, the check, draw and encode.
 ghost use mathlib.Core.Path.{_≡_};
-ghost use Prim.Native.Nat.{_<_, _≤_};
+ghost use Prim.Native.Nat.{_*_, _<_, _≤_};
 ghost use lib.ListN.{length, take};
 ghost use lib.Seq.{sets};
-ghost use Rattle.paper.specs.Answers.{accept, into, Gave};
-ghost use Rattle.paper.specs.Iso15417.{check, next, row};
+ghost use Rattle.paper.specs.Answers.{Each, accept, into, Gave};
+ghost use Rattle.paper.specs.Iso15417.{check, next, cells, row};
 ghost use Rattle.paper.specs.Crate.{spans, numberIn};
 ghost use Rattle.paper.specs.Jobs.{SymbolList, encode, draw};
-ghost use Rattle.helpers.specs.Numbers.{numberOf, secondOf};
+ghost use Rattle.helpers.specs.Numbers.{numberOf, secondOf, tells};
 ghost use Rattle.code128.specs.Sets.{setOf, named, startOf, numbered};
+ghost use Rattle.code128.specs.Stopped.{stoppedAt};
+ghost use Rattle.code128.specs.Words.{words, quads, lowBytes, spreadOf};
+ghost use Rattle.paper.proofs.Cells.{Number};
 use helpers::Answer;
 use helpers::Refusal;
 use parse::Parsed;
@@ -82,10 +85,14 @@ impl CharacterSet {
         }
     }
 
-    // The set after a symbol: the STARTs, and the switches Code C 99, Code B 100, Code A 101. In set C 99 is a pair.
+    // The set after a symbol: the STARTs, and the switches Code C 99, Code B 100, Code A 101. In set C 99 is a pair. Nothing below
+    // 99 switches, which is told first, since most symbols are.
     pub fn next(self, m: u8) -> CharacterSet
         ensures { λ r. ⌜ setOf r ≡ next (setOf self) m ⌝ }
     {
+        if m < 99 {
+            return self;
+        }
         match self {
             CharacterSet::A => match m {
                 99 => CharacterSet::C,
@@ -146,6 +153,59 @@ fn join_at(out: &mut [u8], at: usize, slice: &[u8])
     helpers::join_slices(&mut out[at..], slice);
 }
 
+// Writes the bytes of a number into `part`, the lowest first, as many as it holds.
+fn put_bytes(part: &mut [u8], x: u32)
+    ensures { λ _. ⌜ now (part .exit) ≡ sets (now (part .entry)) 0 (lowBytes (length (now (part .entry))) x) ⌝ }
+{
+    let mut rest = x;
+    let mut j: usize = 0;
+    while j < part.len() {
+        part[j] = (rest % 256) as u8;
+        rest /= 256;
+        j += 1;
+    }
+}
+
+// Writes the eleven cells of a word into `part`: four, four and three at once, by the table `four`.
+fn spread(part: &mut [u8], word: u16, four: &[u32])
+    requires { ⌜ (length (now part) ≡ 11) × (now four ≡ quads) ⌝ }
+    ensures { λ _. ⌜ now (part .exit) ≡ sets (now (part .entry)) 0 (spreadOf word) ⌝ }
+{
+    let w = wider(word);
+    put_bytes(&mut part[0..4], four[w / 128 % 16]);
+    put_bytes(&mut part[4..8], four[w / 8 % 16]);
+    put_bytes(&mut part[8..11], four[w % 8 * 2]);
+}
+
+// A word as a number to count with.
+fn wider(x: u16) -> usize
+    ensures { λ r. ⌜ r ≡ x ⌝ }
+{
+    x as usize
+}
+
+// A symbol as a place of a table.
+fn place(m: u8) -> usize
+    ensures { λ r. ⌜ r ≡ m ⌝ }
+{
+    m as usize
+}
+
+// Writes the patterns of `symbols` into the front of `out`, one after the other: `table` has them as words.
+fn join_iters(out: &mut [u8], table: &[u16], four: &[u32], symbols: &[u8])
+    requires { ⌜ (now table ≡ words) × (now four ≡ quads) × Each Number (now symbols) × (11 * length (now symbols) ≤ length (now out)) ⌝ }
+    ensures { λ _. ⌜ now (out .exit) ≡ sets (now (out .entry)) 0 (cells (now (symbols .entry))) ⌝ }
+{
+    let mut i: usize = 0;
+    while i < symbols.len() {
+        let m = place(symbols[i]);
+        let at = 11 * i;
+        let end = at + 11;
+        spread(&mut out[at..end], table[m], four);
+        i += 1;
+    }
+}
+
 // The row of a symbol list, where there is room: the payload, the check, the stop.
 fn write_row(symbols: &[u8], out: &mut [u8]) -> Answer
     requires { ⌜ SymbolList (now symbols) ⌝ }
@@ -157,12 +217,13 @@ fn write_row(symbols: &[u8], out: &mut [u8]) -> Answer
     if out.len() < end {
         return Answer::Refused(Refusal::Room, end);
     }
-    let table = chars::table();
-    let check = 11 * (checksum_value(symbols) as usize);
-    let next = check + 11;
-    helpers::join_iters(out, &table, symbols);
-    join_at(out, payload, &table[check..next]);
-    join_at(out, payload + 11, &STOP);
+    let words = chars::words();
+    let quads = chars::quads();
+    let check = checksum_value(symbols) as usize;
+    let stop = payload + 11;
+    join_iters(out, &words, &quads, symbols);
+    spread(&mut out[payload..stop], words[check], &quads);
+    join_at(out, stop, &STOP);
     join_at(out, payload + 22, &TERM);
     Answer::Done(n)
 }
@@ -178,9 +239,9 @@ pub fn draw(symbols: &[u8], out: &mut [u8]) -> Answer
     write_row(symbols, out)
 }
 
-// Encode: code points to a row.
-pub fn encode(text: &[u32], out: &mut [u8]) -> Answer
-    ensures { λ r. ⌜ Gave (encode (length (now (out .entry))) (now (text .entry))) (numberOf r) (secondOf r) (now (out .entry)) (now (out .exit)) ⌝ }
+// Where parsing stops: what is asked before, each over the whole input, and else that place: 1, 2, 3.
+fn stopped(text: &[u32], place: usize) -> Answer
+    ensures { λ r. ⌜ tells r ≡ stoppedAt (now (text .entry)) place ⌝ }
 {
     let at = unicode::first_no_scalar(text);
     if at < text.len() {
@@ -189,9 +250,17 @@ pub fn encode(text: &[u32], out: &mut [u8]) -> Answer
     if !unicode::has_two_bytes(text) {
         return Answer::Refused(Refusal::Length, 0);
     }
+    Answer::Refused(Refusal::Character, place)
+}
+
+// Encode: code points to a row. What parses to its end has passed 1 and 2: each code point with a number is a scalar value,
+// and a START has two bytes.
+pub fn encode(text: &[u32], out: &mut [u8]) -> Answer
+    ensures { λ r. ⌜ Gave (encode (length (now (out .entry))) (now (text .entry))) (numberOf r) (secondOf r) (now (out .entry)) (now (out .exit)) ⌝ }
+{
     let mut list = [0u8; 255];
     match parse::parse(text, &mut list) {
-        Parsed::Stops(place) => Answer::Refused(Refusal::Character, place),
+        Parsed::Stops(place) => stopped(text, place),
         Parsed::Symbols(n) => {
             if 255 < n {
                 return Answer::Refused(Refusal::Symbols, n);

@@ -1,7 +1,7 @@
 -- A job's promise, made: by a refusal, by one handed on, by an acceptance whose output was stored from place 0 on.
 -- Assumes nothing.
 use Prim.Native.Nat.{ℕ, _+_, _*_, _≤_}
-use mathlib.Core.Path.{_≡_, sym, ap, _∙_}
+use mathlib.Core.Path.{_≡_, refl, sym, ap, _∙_}
 use mathlib.Core.List.{List, []}
 use native.Mathlib.Omega.{arith}
 use lib.ListN.{length}
@@ -41,6 +41,12 @@ told-refused {r} {k} e h = sym h ∙ rw e
 pub told-done : {v : Answer} {n : ℕ} {x : Paper.Answer} → v ≡ Done n → tells v ≡ x → x ≡ accept n []
 unfolding tells
 told-done e h = sym h ∙ rw e
+
+-- an answer that wrote nothing, handed on
+pub told-on : {a : Paper.Answer} {buf : List ℕ} (v : Answer) → tells v ≡ a → Gave a (numberOf v) (secondOf v) buf buf
+unfolding tells number second after numberOf secondOf
+told-on (Done n) e = rw (← e) (record { gave-number = refl; gave-second = refl; gave-buffer = refl })
+told-on (Refused r k) e = refused r k (sym e)
 
 -- ---- the first two tests of a job, and what comes behind them
 

@@ -1,7 +1,6 @@
 pub mod Writes
 pub mod Part
 pub mod Seek
-pub mod Joins
 pub mod Vets
 pub mod Gives
 pub mod Answers

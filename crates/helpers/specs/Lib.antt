@@ -1,4 +1,3 @@
 pub mod First
-pub mod Joined
 pub mod Numbers
 pub mod Vetted

@@ -1,12 +1,11 @@
-// What every job answers, and writing into parts of a lent buffer: after `src/sym/helpers.rs` of barcoders 2.0.0, whose
-// two joining functions return a new vector.
+// What every job answers, and writing into a part of a lent buffer: `join_slices` of `src/sym/helpers.rs` of barcoders 2.0.0,
+// which returns a new vector there.
 ghost use Prim.Native.Nat.{_≤_, min};
 ghost use mathlib.Core.Path.{_≡_};
 ghost use lib.Dec.{ltb};
 ghost use lib.ListN.{length, drop};
 ghost use lib.Seq.{sets};
 ghost use Rattle.helpers.specs.First.{firstBad};
-ghost use Rattle.helpers.specs.Joined.{joined, Put};
 ghost use Rattle.helpers.specs.Numbers.{refusalNumber, numberOf, secondOf, tells};
 ghost use Rattle.helpers.specs.Vetted.{vetted, shaped};
 
@@ -116,39 +115,6 @@ pub fn join_slices(part: &mut [u8], slice: &[u8])
     while j < n {
         part[j] = slice[j];
         j += 1;
-    }
-}
-
-// Writes entry `s` of a table of entries of eleven cells into `out` from place `at`, as far as `out` reaches; answers the
-// place behind it. Where the table has no such entry nothing is written.
-fn put(out: &mut [u8], at: usize, table: &[u8], s: u8) -> usize
-    requires { ⌜ at ≤ length (now out) ⌝ }
-    ensures { λ r. ⌜ Put (now (table .entry)) s (now (out .entry)) at (now (out .exit)) r ⌝ }
-{
-    let a = 11 * (s as usize);
-    let e = a + 11;
-    if table.len() < e {
-        return at;
-    }
-    let len = out.len();
-    if len - at < 11 {
-        join_slices(&mut out[at..], &table[a..e]);
-        return len;
-    }
-    let end = at + 11;
-    join_slices(&mut out[at..end], &table[a..e]);
-    end
-}
-
-// Writes the entries that `symbols` names into `out`, one after the other, as far as `out` reaches.
-pub fn join_iters(out: &mut [u8], table: &[u8], symbols: &[u8])
-    ensures { λ _. ⌜ now (out .exit) ≡ sets (now (out .entry)) 0 (joined (now (table .entry)) (now (symbols .entry))) ⌝ }
-{
-    let mut at: usize = 0;
-    let mut i: usize = 0;
-    while i < symbols.len() {
-        at = put(out, at, table, symbols[i]);
-        i += 1;
     }
 }
 

@@ -1,6 +1,6 @@
 -- What encode accepts, which inputs give the same row, and what spell writes.
 -- Assumes nothing.
-use mathlib.Core.Path.{_≡_, refl, sym, ap}
+use mathlib.Core.Path.{_≡_, refl, sym, ap, _∙_}
 use mathlib.Core.Logic.{_↔_}
 use mathlib.Core.Bool.{Bool, true, false}
 use mathlib.Core.Option.{Option, none, some}
@@ -10,7 +10,7 @@ use native.Mathlib.Omega.{arith}
 use lib.Dec.{leb, ltb}
 use lib.ListN.{length}
 use borrow.Author.Tests.{leb-true, le-leb, lt-ltb, le-ltb}
-use Rattle.paper.specs.Answers.{if_then_else_, accept, _then_, ask, noneBad}
+use Rattle.paper.specs.Answers.{if_then_else_, accept, _then_, ask, noneBad, into}
 use Rattle.paper.specs.Iso15417.{before, row}
 use Rattle.paper.specs.Crate.{spans, numberIn, pairs, listed, step, State, Parsed, stops, symbols, follow, ending, parseFrom, parse, utf8Of, utf8Bytes, noScalar, spelled}
 use Rattle.paper.specs.Settle.{settle, inside}
@@ -60,15 +60,20 @@ parsed-case (symbols s) n r e =
     let count = accept-number (both .1) in
     (s, refl, sym count, rw count at (leb-true (length s) most (ask-passes _ _ _ (both .0))), sym (accept-output (both .1)))
 
-pub encode-accepts : (room : ℕ) (x s : List ℕ) → parse x ≡ symbols s → length s ≤ most → length (row s) ≤ room → encode room x ≡ accept (length s) (row s)
+-- an input that parses: what is left to ask is its size and the room
+pub encode-parsed : (room : ℕ) (x s : List ℕ) → parse x ≡ symbols s → encode room x ≡ into room (ask (leb (length s) most) 4 (length s) then accept (length s) (row s))
 unfolding encode parsed
-encode-accepts room x s p size fits =
+encode-parsed room x s p =
     rw (
       then-passes (noneBad noScalar 1 0 x) _ (all-good noScalar 1 0 x (each-map _ _ low-scalar x (parse-low x s p))),
       then-passes (ask (leb 2 (utf8Bytes x)) 2 0) _ (ask-true _ 2 0 (le-leb 2 (utf8Bytes x) (parse-wide x s p))),
       p,
-      then-passes (ask (leb (length s) most) 4 (length s)) _ (ask-true _ 4 (length s) (le-leb (length s) most size)),
-    ) (into-room room (length s) (row s) fits)
+    )
+
+pub encode-accepts : (room : ℕ) (x s : List ℕ) → parse x ≡ symbols s → length s ≤ most → length (row s) ≤ room → encode room x ≡ accept (length s) (row s)
+encode-accepts room x s p size fits =
+    encode-parsed room x s p
+    ∙ rw (then-passes (ask (leb (length s) most) 4 (length s)) (accept (length s) (row s)) (ask-true _ 4 (length s) (le-leb (length s) most size))) (into-room room (length s) (row s) fits)
 
 pub encode-exactly : (room : ℕ) (x : List ℕ) (n : ℕ) (r : List ℕ)
     → (encode room x ≡ accept n r) ↔ ((s : List ℕ) × (parse x ≡ symbols s) × (n ≡ length s) × (n ≤ most) × (r ≡ row s) × (length r ≤ room))

@@ -43,7 +43,7 @@ as-equal a b t = eqb-true a b (truth (eqb a b) t)
 pub as-least : (a b : ℕ) → T (leb a b) → a ≤ b
 as-least a b t = leb-true a b (truth (leb a b) t)
 
-as-same : (xs ys : List ℕ) → T (same xs ys) → xs ≡ ys
+pub as-same : (xs ys : List ℕ) → T (same xs ys) → xs ≡ ys
 as-same xs ys t = same-true xs ys (truth (same xs ys) t)
 
 as-other : (xs ys : List ℕ) → T (not (same xs ys)) → xs ≢ ys

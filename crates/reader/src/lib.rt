@@ -61,7 +61,7 @@ fn blocks(row: &[u8], count: usize, list: &mut [u8]) -> Answer
     requires { ⌜ (11 * count ≤ length (now row)) × (count ≤ length (now list)) ⌝ }
     ensures { λ r. ⌜ walked count r (now (list .exit)) ≡ blocksFrom count 0 (now (row .entry)) ⌝ }
 {
-    let table = code128::chars::CHARS;
+    let table = code128::chars::table();
     let mut b: usize = 0;
     while b < count {
         let Found::Symbol(m) = find(row, 11 * b, &table) else {

@@ -1,11 +1,10 @@
 -- `reader::blocks` meets its contract: one block a turn, looked up once.
 -- Assumes nothing.
 use Prim.Native.Nat.{_-_}
-use mathlib.Core.Path.{refl, sym, _∙_}
+use mathlib.Core.Path.{sym, _∙_}
 use native.Mathlib.Omega.{arith}
 use borrow.Author.Needs.{needs}
 use borrow.Author.Tests.{not-true, not-false}
-use Rattle.paper.specs.Chars.{chars}
 use Rattle.helpers.specs.Numbers.{refusalNumber}
 use Rattle.reader.specs.Parts.{walked}
 use Rattle.reader.proofs.Walks.{looked-nothing, looked-symbol, Walking, walk-begin, walk-unknown, walk-misfit, walk-turn, walk-end}
@@ -18,6 +17,9 @@ Inv-loop row count list₀ table b₀ list b = Walking count row list₀ list b
 abbrev μ-loop : tie.MeasureT-loop
 μ-loop row count list₀ table b₀ list b = count - b
 
+table-requires : tie.Need-table-requires Inv-loop μ-loop
+table-requires c κs = search needs
+
 loop-holds : tie.Need-loop-holds Inv-loop μ-loop
 loop-holds c = walk-begin
 
@@ -28,8 +30,7 @@ slice-aggregate-find : tie.Need-slice-aggregate-find Inv-loop μ-loop
 slice-aggregate-find c = search needs
 
 find-requires : tie.Need-find-requires Inv-loop μ-loop
-unfolding chars
-find-requires c κs = (omega arith, refl)
+find-requires c κs = (omega arith, c .before .before .before .table .ensures)
 
 enum-known-m : tie.Need-enum-known-m Inv-loop μ-loop
 enum-known-m c = search needs
@@ -89,6 +90,7 @@ blocks-spec =
     (tie.spec
     Inv-loop
     μ-loop
+    table-requires
     loop-holds
     mul-find
     slice-aggregate-find
