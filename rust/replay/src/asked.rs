@@ -12,7 +12,7 @@ struct Published {
     check: usize,
 }
 
-/// The standard's examples, and the worked sum of the article "Code 128" of Wikipedia.
+/// The standard's examples, and the worked sum of the article "Code 128" of Wikipedia, as we know them: no copy of either was at hand.
 const PUBLISHED: [Published; 3] = [
     Published {
         place: "ISO/IEC 15417, Figure 1",
