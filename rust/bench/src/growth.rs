@@ -10,6 +10,12 @@ const SIZES: [usize; 13] = [1, 2, 4, 8, 16, 32, 64, 96, 128, 160, 192, 224, 255]
 /// From this size on a departure from the line counts: below it the constant part is most of the time.
 const FROM: usize = 16;
 
+/// So many times as many rounds as elsewhere, since one time that is off bends the line.
+const TIMES: usize = 3;
+
+/// And at least so many rounds.
+const LEAST: usize = 101;
+
 /// How many labels of a size: more than elsewhere, so that they are alike on average, since the search takes longer for some symbols than for others.
 fn count(n: usize) -> usize {
     (16384 / n).clamp(64, 512)
@@ -18,27 +24,39 @@ fn count(n: usize) -> usize {
 /// A growth is called straight where no time from n = 16 on departs from the line by more.
 const STRAIGHT: f64 = 0.15;
 
-/// A line through points: t = a + b·n, how much of the times' spread it explains, and the largest departure relative to it.
+/// A size and what there is at it: a time or a departure.
+type Point = (f64, f64);
+
+/// A line through points: t = a + b·n, how much of the times' spread it explains, and the n and the size of the largest departure:
+/// relative to the line from n = 16 on, in ns below.
 struct Fit {
     a: f64,
     b: f64,
     explained: f64,
-    departure: f64,
+    far: Point,
+    near: Point,
+}
+
+/// The largest departure of either sign.
+fn largest(departures: impl Iterator<Item = Point>) -> Point {
+    departures.max_by(|x, y| x.1.abs().total_cmp(&y.1.abs())).unwrap_or_default()
 }
 
 /// Fits a line by least squares.
 fn fit(times: &[f64]) -> Fit {
-    let points: Vec<(f64, f64)> = SIZES.iter().map(|&n| n as f64).zip(times.iter().copied()).collect();
+    let points: Vec<Point> = SIZES.iter().map(|&n| n as f64).zip(times.iter().copied()).collect();
     let count = points.len() as f64;
-    let mean = |f: fn(&(f64, f64)) -> f64| points.iter().map(f).sum::<f64>() / count;
+    let mean = |f: fn(&Point) -> f64| points.iter().map(f).sum::<f64>() / count;
     let (x, y) = (mean(|p| p.0), mean(|p| p.1));
-    let sum = |f: &dyn Fn(&(f64, f64)) -> f64| points.iter().map(f).sum::<f64>();
+    let sum = |f: &dyn Fn(&Point) -> f64| points.iter().map(f).sum::<f64>();
     let b = sum(&|p| (p.0 - x) * (p.1 - y)) / sum(&|p| (p.0 - x).powi(2));
     let a = y - b * x;
     let line = |n: f64| a + b * n;
     let explained = 1.0 - sum(&|p| (p.1 - line(p.0)).powi(2)) / sum(&|p| (p.1 - y).powi(2));
-    let far = points.iter().filter(|p| p.0 >= FROM as f64).map(|p| (p.1 / line(p.0) - 1.0).abs());
-    Fit { a, b, explained, departure: far.fold(0.0, f64::max) }
+    let (near, far): (Vec<Point>, Vec<Point>) = points.iter().copied().partition(|p| p.0 < FROM as f64);
+    let far = largest(far.iter().map(|p| (p.0, p.1 / line(p.0) - 1.0)));
+    let near = largest(near.iter().map(|p| (p.0, p.1 - line(p.0))));
+    Fit { a, b, explained, far, near }
 }
 
 /// The median times of a job at every size, the sizes in turn within each round.
@@ -53,8 +71,8 @@ fn each<I>(labels: &[Label], form: fn(&Label) -> &[I]) -> Vec<&[I]> {
 }
 
 /// Prints the times of every job at every size.
-fn print_times(jobs: &[(&str, Vec<f64>)]) {
-    println!("\n### Time of the library's jobs from n = 1 to 255, set B, ns\n");
+fn print_times(jobs: &[(&str, Vec<f64>)], rounds: usize) {
+    println!("\n### Time of the library's jobs from n = 1 to 255, set B, ns, medians of {rounds} rounds\n");
     println!("| job | {} |", SIZES.map(|n| n.to_string()).join(" | "));
     println!("|---|{}", "---:|".repeat(SIZES.len()));
     for (name, times) in jobs {
@@ -64,17 +82,18 @@ fn print_times(jobs: &[(&str, Vec<f64>)]) {
 
 /// Prints the line of every job; answers what is not straight.
 fn print_lines(jobs: &[(&str, Vec<f64>)]) -> Vec<String> {
-    println!("\n### The line t = a + b·n through these times\n");
-    println!("| job | a, ns | b, ns | R² | largest departure from the line, n ≥ {FROM} | at most {STRAIGHT} |");
-    println!("|---|---:|---:|---:|---:|---|");
+    println!("\n### The line t = a + b·n through these times, n = 1 to 255, set B\n");
+    println!("| job | a, ns | b, ns | R² | largest departure, n < {FROM}, ns | largest departure, n ≥ {FROM}, of the line | at most {STRAIGHT} |");
+    println!("|---|---:|---:|---:|---:|---:|---|");
     let mut bent = Vec::new();
     for (name, times) in jobs {
-        let f = fit(times);
-        let straight = f.departure <= STRAIGHT;
+        let Fit { a, b, explained, near, far } = fit(times);
+        let straight = far.1.abs() <= STRAIGHT;
         let verdict = if straight { "straight" } else { "**not straight**" };
-        println!("| {name} | {:.1} | {:.3} | {:.4} | {:.3} | {verdict} |", f.a, f.b, f.explained, f.departure);
+        let (near, far) = (format!("{:+.1} at n = {}", near.1, near.0), format!("{:+.3} at n = {}", far.1, far.0));
+        println!("| {name} | {a:.1} | {b:.3} | {explained:.4} | {near} | {far} | {verdict} |");
         if !straight {
-            bent.push(format!("Growth of {name}: departs from the line by {:.3}", f.departure));
+            bent.push(format!("Growth of {name}: departs from the line by {far}"));
         }
     }
     bent
@@ -82,6 +101,7 @@ fn print_lines(jobs: &[(&str, Vec<f64>)]) -> Vec<String> {
 
 /// Times every job at every size and prints both tables; answers how many there are and what is not straight.
 pub fn run(rounds: usize) -> (usize, Vec<String>) {
+    let rounds = (TIMES * rounds).max(LEAST);
     let labels: Vec<Vec<Label>> = SIZES.iter().map(|&n| labels(Kind::B, n, count(n))).collect();
     let jobs = [
         ("encode", grow(&labels, rounds, |l| lent(&each(l, |l| &l.points), slatmonief::encode))),
@@ -92,6 +112,6 @@ pub fn run(rounds: usize) -> (usize, Vec<String>) {
         ("pack", grow(&labels, rounds, |l| lent(&each(l, |l| &l.row), slatmonief::pack))),
         ("unpack", grow(&labels, rounds, |l| lent(&each(l, |l| &l.record), slatmonief::unpack))),
     ];
-    print_times(&jobs);
+    print_times(&jobs, rounds);
     (jobs.len(), print_lines(&jobs))
 }

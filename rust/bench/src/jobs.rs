@@ -22,6 +22,10 @@ fn count(n: usize) -> usize {
 /// The size of every lent buffer: enough for any job.
 const ROOM: usize = 2829;
 
+/// Every lent buffer begins where a page of the memory does: a write across the end of a page takes some 12 ns more, which would meet
+/// one buffer and not another.
+const PAGE: usize = 4096;
+
 /// The most that the library may take of the crate's time.
 const OF_CRATE: f64 = 0.06;
 
@@ -33,9 +37,12 @@ pub fn lent<'a, I, O, R>(inputs: &[&'a [I]], job: impl Fn(&[I], &mut [O]) -> R +
 where
     O: Copy + Default + 'a,
 {
-    let mut buffer = vec![O::default(); ROOM];
+    let mut memory = vec![O::default(); ROOM + PAGE].into_boxed_slice();
+    let start = memory.as_ptr().align_offset(PAGE);
     Side::new(inputs.to_vec(), move |input| {
-        black_box(job(input, &mut buffer));
+        let buffer = &mut memory[start..start + ROOM];
+        black_box(job(input, buffer));
+        black_box(buffer);
     })
 }
 

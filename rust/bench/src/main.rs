@@ -71,7 +71,7 @@ fn run(part: &str, rounds: usize) -> io::Result<(usize, Vec<String>)> {
 /// Runs the parts that are asked for, and says at the end which targets are not reached.
 fn run_all(options: &Options) -> io::Result<()> {
     print_machine();
-    println!("Medians of {} rounds, the sides in turn; the ratio is that of the medians, its quartiles are those of the rounds.", options.rounds);
+    println!("In each round the sides come in turn; the ratio is that of the medians, its quartiles are those of the rounds.");
     let (mut asked, mut missed) = (0, Vec::new());
     for part in PARTS.iter().filter(|part| options.parts.iter().any(|p| p == *part)) {
         let (targets, not_reached) = run(part, options.rounds)?;

@@ -4,11 +4,11 @@ use bench::inputs::{label, list, Kind, Numbers};
 use std::fs::{self, File};
 use std::io::{self, BufReader, BufWriter, Read, Write};
 use std::path::{Path, PathBuf};
-use std::process::{Command, Stdio};
+use std::process::{Child, Command, Stdio};
 use std::time::{Duration, Instant};
 use std::{env, thread};
 
-/// The sizes of the labels, each with the number of runs and with what the program may take of the filter's time, where something is asked.
+/// The sizes of the labels, each with the number of rounds and with what the program may take of the filter's time, where something is asked.
 const SIZES: [(usize, usize, Option<f64>); 4] = [(2, 15, None), (14, 15, Some(0.15)), (50, 7, None), (255, 5, None)];
 
 /// The lines of a file.
@@ -16,6 +16,9 @@ const LINES: usize = 100_000;
 
 /// A program that waits for input is asleep at so many looks one after the other.
 const LOOKS: usize = 5;
+
+/// It is given up after so many looks.
+const PATIENCE: usize = 500;
 
 /// The two programs.
 struct Programs {
@@ -62,7 +65,10 @@ fn find_filter() -> io::Result<PathBuf> {
     if let (Some(cargo), Some(target)) = (env::var_os("CARGO"), path.ancestors().nth(2)) {
         let mut build = Command::new(cargo);
         build.args(["build", "--quiet", "--offline", "--release", "--package", "bench", "--bin", "filter", "--target-dir"]).arg(target);
-        build.current_dir(env!("CARGO_MANIFEST_DIR")).status()?;
+        let status = build.current_dir(env!("CARGO_MANIFEST_DIR")).status()?;
+        if !status.success() {
+            return Err(io::Error::other(format!("the filter cannot be built: cargo build --bin filter: {status}")));
+        }
     }
     match path.is_file() {
         true => Ok(path),
@@ -131,25 +137,48 @@ pub fn time() -> io::Result<Vec<Table>> {
     let programs = Programs { label: find_label()?, filter: find_filter()? };
     let folder = Folder::new()?;
     let (input, ours, other) = (folder.file("lines"), folder.file("ours"), folder.file("other"));
-    let mut table = Table::new("The label program beside the same filter over the crate, 100,000 lines, 5 to 15 runs", "output | n", "s", "filter");
+    let mut table = Table::new("The label program beside the same filter over the crate, 100,000 lines", "output | n | rounds", "s", "filter");
     for (n, runs, target) in SIZES {
         let mut lines = BufWriter::new(File::create(&input)?);
         write_lines(&mut lines, n, LINES)?;
         lines.into_inner()?;
         let (a, b) = in_turn(&programs, runs, &input, None)?;
-        table.add(format!("/dev/null | {n}"), &a, &b, target);
+        table.add(format!("/dev/null | {n} | {runs} rounds"), &a, &b, target);
         let (a, b) = in_turn(&programs, runs, &input, Some((&ours, &other)))?;
         assert_equal(&ours, &other)?;
-        table.add(format!("a file | {n}"), &a, &b, target);
+        table.add(format!("a file | {n} | {runs} rounds"), &a, &b, target);
     }
     Ok(vec![table])
 }
 
 /// A line of what the system says about a process.
 fn status(process: u32, name: &str) -> io::Result<String> {
-    let status = fs::read_to_string(format!("/proc/{process}/status"))?;
+    let path = format!("/proc/{process}/status");
+    let status = fs::read_to_string(&path).map_err(|error| io::Error::other(format!("{path}: {error}")))?;
     let line = status.lines().find_map(|line| line.strip_prefix(name));
-    Ok(line.unwrap_or_default().trim().to_string())
+    line.map(|line| line.trim().to_string()).ok_or_else(|| io::Error::other(format!("{path} has no {name}")))
+}
+
+/// Waits until a program waits for more input; one that has ended, or that does not come to rest, is an error.
+fn settle(run: &mut Child) -> io::Result<()> {
+    let mut asleep = 0;
+    for _ in 0..PATIENCE {
+        thread::sleep(Duration::from_millis(20));
+        if let Some(status) = run.try_wait()? {
+            return Err(io::Error::other(format!("a program ends before its input does: {status}")));
+        }
+        asleep = if status(run.id(), "State:")?.starts_with('S') { asleep + 1 } else { 0 };
+        if asleep == LOOKS {
+            return Ok(());
+        }
+    }
+    Err(io::Error::other("a program does not come to rest"))
+}
+
+/// The number of KB that a line of the system says.
+fn kilobytes(line: &str) -> io::Result<usize> {
+    let number = line.strip_suffix(" kB").and_then(|number| number.parse().ok());
+    number.ok_or_else(|| io::Error::other(format!("no number of KB: {line}")))
 }
 
 /// The most memory in KB that a program has held once it has read all of the input and waits for more.
@@ -159,15 +188,14 @@ fn peak(program: &Path, text: &[u8], times: usize) -> io::Result<usize> {
     for _ in 0..times {
         stdin.write_all(text)?;
     }
-    let mut asleep = 0;
-    while asleep < LOOKS {
-        thread::sleep(Duration::from_millis(20));
-        asleep = if status(run.id(), "State:")?.starts_with('S') { asleep + 1 } else { 0 };
+    let most = settle(&mut run).and_then(|()| kilobytes(&status(run.id(), "VmHWM:")?));
+    if most.is_err() {
+        run.kill()?;
     }
-    let most = status(run.id(), "VmHWM:")?;
     drop(stdin);
-    assert!(run.wait()?.success(), "a program fails");
-    Ok(most.split(' ').next().and_then(|kb| kb.parse().ok()).unwrap_or(0))
+    let ended = run.wait()?;
+    assert!(most.is_err() || ended.success(), "a program fails");
+    most
 }
 
 /// Prints the most memory of both programs at ten and at a million lines of n = 14.
@@ -176,7 +204,7 @@ pub fn memory() -> io::Result<()> {
     let (mut ten, mut thousand) = (Vec::new(), Vec::new());
     write_lines(&mut ten, 14, 10)?;
     write_lines(&mut thousand, 14, 1000)?;
-    println!("\n### The most memory, KB, n = 14\n");
+    println!("\n### The most memory, KB, n = 14, one run each\n");
     println!("| program | ten lines | a million lines |");
     println!("|---|---:|---:|");
     for (name, program) in [("label", &programs.label), ("filter over the crate", &programs.filter)] {

@@ -7,6 +7,7 @@ struct Line {
     ours: f64,
     other: f64,
     quartiles: (f64, f64),
+    rounds: usize,
     target: Option<f64>,
 }
 
@@ -45,12 +46,21 @@ impl Table {
     pub fn add(&mut self, name: impl Into<String>, ours: &[f64], other: &[f64], target: Option<f64>) {
         let ratios: Vec<f64> = ours.iter().zip(other).map(|(a, b)| a / b).collect();
         let quartiles = (quantile(&ratios, 0.25), quantile(&ratios, 0.75));
-        self.lines.push(Line { name: name.into(), ours: median(ours), other: median(other), quartiles, target });
+        self.lines.push(Line { name: name.into(), ours: median(ours), other: median(other), quartiles, rounds: ratios.len(), target });
+    }
+
+    /// How many rounds the medians are of: a number, or from the fewest to the most where the lines differ.
+    fn rounds(&self) -> String {
+        let rounds = || self.lines.iter().map(|l| l.rounds);
+        match (rounds().min().unwrap_or(0), rounds().max().unwrap_or(0)) {
+            (fewest, most) if fewest == most => format!("{most}"),
+            (fewest, most) => format!("{fewest} to {most}"),
+        }
     }
 
     /// Prints the table.
     pub fn print(&self) {
-        println!("\n### {}\n", self.title);
+        println!("\n### {}, medians of {} rounds\n", self.title, self.rounds());
         println!("| {} | library, {} | {}, {} | ratio | quartiles of the ratio | target | |", self.keys, self.unit, self.other, self.unit);
         println!("|{}---:|---:|---:|---|---:|---|", "---|".repeat(self.keys.split('|').count()));
         for l in &self.lines {

@@ -61,14 +61,32 @@ pub fn measure(sides: &mut [Side], rounds: usize) -> Vec<Vec<f64>> {
     times
 }
 
-/// The value that the given part of the values does not exceed: 0.5 is the median.
+/// The value that the given part of the values does not exceed, on the straight line between the two nearest where it lies between them.
 pub fn quantile(values: &[f64], part: f64) -> f64 {
     let mut sorted = values.to_vec();
     sorted.sort_by(f64::total_cmp);
-    sorted[((sorted.len() - 1) as f64 * part).round() as usize]
+    let place = (sorted.len() - 1) as f64 * part;
+    let (low, high) = (sorted[place.floor() as usize], sorted[place.ceil() as usize]);
+    low + (high - low) * place.fract()
 }
 
-/// The median.
+/// The median: of an even number of values the mean of the two in the middle.
 pub fn median(values: &[f64]) -> f64 {
     quantile(values, 0.5)
+}
+
+#[cfg(test)]
+mod tests {
+    use super::{median, quantile};
+
+    #[test]
+    fn quantiles_lie_between_the_nearest_values() {
+        assert_eq!(median(&[7.0]), 7.0);
+        assert_eq!(median(&[4.0, 1.0]), 2.5);
+        assert_eq!(median(&[9.0, 1.0, 2.0]), 2.0);
+        assert_eq!(median(&[4.0, 3.0, 1.0, 2.0]), 2.5);
+        assert_eq!((quantile(&[4.0, 3.0, 1.0, 2.0], 0.25), quantile(&[4.0, 3.0, 1.0, 2.0], 0.75)), (1.75, 3.25));
+        assert_eq!((quantile(&[5.0, 4.0, 3.0, 2.0, 1.0], 0.25), quantile(&[5.0, 4.0, 3.0, 2.0, 1.0], 0.75)), (2.0, 4.0));
+        assert_eq!((quantile(&[2.0, 1.0], 0.0), quantile(&[2.0, 1.0], 1.0)), (1.0, 2.0));
+    }
 }

@@ -17,7 +17,7 @@ pub enum Crate {
 }
 
 /// The text of these code points, or the place of the first that is no scalar value.
-fn text_of(points: &[u32]) -> Result<String, usize> {
+pub fn text_of(points: &[u32]) -> Result<String, usize> {
     let mut text = String::with_capacity(4 * points.len() + 4);
     for (place, &point) in points.iter().enumerate() {
         text.push(char::from_u32(point).ok_or(place)?);
@@ -26,7 +26,7 @@ fn text_of(points: &[u32]) -> Result<String, usize> {
 }
 
 /// Up to so many code points the crate can draw: far above, its sum of the check no longer fits an `i32`.
-const MOST_DRAWN: usize = 6000;
+pub const MOST_DRAWN: usize = 6000;
 
 /// The symbols of a text that the crate accepts, counted in what it shows of itself.
 fn symbols(code: &Code128) -> usize {
@@ -61,7 +61,7 @@ fn accepts(text: &str) -> bool {
     Code128::new(text).is_ok()
 }
 
-/// What is tried behind a beginning in the short exhaustive runs, one and two at a time.
+/// What is tried behind a short beginning, one and two at a time.
 const BEHIND: [char; 10] = ['0', '9', 'A', 'a', ' ', '\u{1F}', 'À', 'Ɓ', 'Ć', 'Ź'];
 
 /// How much is tried behind a beginning that the crate refuses.
@@ -103,6 +103,17 @@ fn continued_by(text: &mut String, one: char) -> bool {
 /// The first place at which the beginning up to and with it can no longer be continued: looked for from the left.
 pub fn place_from_left(points: &[u32], tries: Tries) -> Option<usize> {
     (0..points.len()).find(|&place| !continues(&points[..=place], tries))
+}
+
+/// Up to this length a text's place is looked for from the left, with many continuations.
+const FROM_LEFT_UP_TO: usize = 6;
+
+/// The place of refusal 3 of a text that the crate refuses by `Character`; the length where every beginning can be continued.
+pub fn place(points: &[u32]) -> usize {
+    if points.len() <= FROM_LEFT_UP_TO {
+        return place_from_left(points, Tries::Many).unwrap_or(points.len());
+    }
+    place_by_halving(points)
 }
 
 /// The same by halving; being continuable is closed under beginnings. The length where every beginning can be continued.

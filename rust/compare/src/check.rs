@@ -1,8 +1,9 @@
 //! One call compared with what it must say, counted, and kept in full where it differs.
-use crate::ask::{self, Crate};
+use crate::ask::{self, Crate, MOST_DRAWN};
 use crate::face::{Answer, Face};
 use crate::listed;
-use crate::model::{accept, refuse, Model, Said, LIMIT};
+use crate::model::{accept, cells, refuse, Model, Said, LIMIT};
+use slatmonief::error::Error;
 use std::fmt::Debug;
 
 /// What is compared: one of the seven jobs, one of the laws that join them, or a count over a whole part.
@@ -10,6 +11,8 @@ use std::fmt::Debug;
 pub enum Subject {
     /// Encode against the crate.
     Encode,
+    /// The type with the crate's signatures against the crate.
+    DropIn,
     /// Draw against the model.
     Draw,
     /// Read against the model.
@@ -35,8 +38,9 @@ pub enum Subject {
 }
 
 /// Every subject that can be called again, and its name on the command line.
-pub const SUBJECTS: [(&str, Subject); 11] = [
+pub const SUBJECTS: [(&str, Subject); 12] = [
     ("encode", Subject::Encode),
+    ("drop-in", Subject::DropIn),
     ("draw", Subject::Draw),
     ("read", Subject::Read),
     ("spell", Subject::Spell),
@@ -80,7 +84,11 @@ pub struct Tally {
     pub refused: [u64; 24],
     /// Laws that were tried and held.
     pub laws: u64,
-    /// Inputs of encode that fell under a row of the list.
+    /// Calls of the type with the crate's signatures.
+    pub drop_in: u64,
+    /// Accepted inputs of encode that are too long for the crate to draw.
+    pub undrawn: u64,
+    /// Calls of encode that fell under a row of the list.
     pub listed: [u64; listed::LIST.len()],
 }
 
@@ -90,6 +98,8 @@ impl Tally {
         self.inputs += other.inputs;
         self.accepted += other.accepted;
         self.laws += other.laws;
+        self.drop_in += other.drop_in;
+        self.undrawn += other.undrawn;
         self.refused.iter_mut().zip(other.refused).for_each(|(mine, theirs)| *mine += theirs);
         self.listed.iter_mut().zip(other.listed).for_each(|(mine, theirs)| *mine += theirs);
     }
@@ -231,7 +241,13 @@ impl<'a> Worker<'a> {
         Worker { face, model, tally: Tally::default(), bytes: Vec::new(), points: Vec::new() }
     }
 
-    /// Encode against the crate, the place of refusal 3 by halving.
+    /// Counts an input of encode.
+    pub fn count_text(&mut self, text: &[u32], crates: &Crate) {
+        self.tally.inputs += 1;
+        self.tally.undrawn += u64::from(text.len() > MOST_DRAWN && matches!(crates, Crate::Row(_)));
+    }
+
+    /// Encode against the crate.
     pub fn encode(&mut self, text: &[u32], room: usize, mark: u8) -> Outcome {
         let said = ask::ask(text);
         let place = place_for(text, &said);
@@ -251,6 +267,22 @@ impl<'a> Worker<'a> {
             self.tally.listed[row as usize] += 1;
         }
         Ok(answer.0)
+    }
+
+    /// The type with the crate's signatures against what the crate is known to answer; more than 255 symbols must be `Error::Length`.
+    pub fn drop_in(&mut self, text: &[u32], crates: &Crate) -> Result<(), Box<Fault>> {
+        let Ok(words) = ask::text_of(text) else { return Ok(()) };
+        let expected = match crates {
+            Crate::Row(row) if row.len() <= cells(LIMIT) => Ok(row),
+            Crate::Character => Err(Error::Character),
+            _ => Err(Error::Length),
+        };
+        let answer = self.face.code128(&words);
+        if expected != answer.as_ref().map_err(|&error| error) {
+            return Err(broken(Subject::DropIn, text.to_vec(), format!("{expected:?}"), format!("{answer:?}")));
+        }
+        self.tally.drop_in += 1;
+        Ok(())
     }
 
     against_model! {
@@ -282,7 +314,7 @@ impl<'a> Worker<'a> {
 /// The place of refusal 3, where the crate refuses by `Character`; else 0.
 pub fn place_for(text: &[u32], said: &Crate) -> usize {
     match said {
-        Crate::Character => ask::place_by_halving(text),
+        Crate::Character => ask::place(text),
         _ => 0,
     }
 }

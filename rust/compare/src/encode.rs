@@ -1,6 +1,7 @@
 //! Encode against the crate.
 use crate::ask::{self, Crate, Tries};
 use crate::check::{broken, place_for, Subject, Tally, Worker};
+use crate::face::Answer;
 use crate::inputs::{self, SMALL, STYLES};
 use crate::model::{self, SWITCH};
 use crate::random::Random;
@@ -53,7 +54,7 @@ fn walk(worker: &mut Worker, tree: &Tree, text: &mut Vec<u32>, depth: usize, dea
 /// One text of an exhaustive run: with exactly enough room and, where it is accepted, with one cell less too.
 fn visit(worker: &mut Worker, text: &[u32], said: &Crate, dead: Option<usize>) -> Result<()> {
     let mark = [0xA7, 0x5C, 0xFF][text.len() % 3];
-    worker.tally.inputs += 1;
+    worker.count_text(text, said);
     let need = match said {
         Crate::Row(row) => row.len(),
         _ => 35,
@@ -62,6 +63,7 @@ fn visit(worker: &mut Worker, text: &[u32], said: &Crate, dead: Option<usize>) -
         let expected = format!("refused by the crate, as no beginning up to place {place} is continued");
         return Err(broken(Subject::Count, text.to_vec(), expected, "accepted by the crate".into()));
     }
+    worker.drop_in(text, said)?;
     if worker.encode_known(text, said, dead.unwrap_or(text.len()), need, mark)? == 0 {
         worker.encode_known(text, said, 0, need - 1, mark)?;
     }
@@ -121,9 +123,14 @@ fn one(worker: &mut Worker, random: &mut Random, text: &[u32]) -> Result<()> {
         Crate::Row(row) => row.len(),
         _ => 35 + random.below(12),
     };
-    let place = place_for(text, &said);
-    worker.tally.inputs += 1;
-    worker.encode_known(text, &said, place, inputs::room(random, need), random.mark()).map(drop)
+    with_room(worker, text, &said, inputs::room(random, need), random.mark())
+}
+
+/// One text with this room, here and by the type with the crate's signatures.
+fn with_room(worker: &mut Worker, text: &[u32], said: &Crate, room: usize, mark: u8) -> Result<()> {
+    worker.count_text(text, said);
+    worker.drop_in(text, said)?;
+    worker.encode_known(text, said, place_for(text, said), room, mark).map(drop)
 }
 
 /// Lengths of the labels of `lengths`: each up to 300, and some far over the limit.
@@ -141,7 +148,8 @@ pub fn lengths(run: &Run) -> Result<Tally> {
         for style in STYLES.into_iter().cycle().take(copies * STYLES.len()) {
             let mut text = inputs::label(&mut random, n, style);
             let said = ask::ask(&text);
-            worker.tally.inputs += 1;
+            worker.count_text(&text, &said);
+            worker.drop_in(&text, &said)?;
             for room in inputs::near(model::cells(n)) {
                 worker.encode_known(&text, &said, 0, room, random.mark())?;
             }
@@ -159,11 +167,10 @@ pub fn far(run: &Run) -> Result<Tally> {
         let mut random = Random::new(run.seed, "encode-far", block);
         let n = lengths[block as usize];
         let mut text = inputs::label(&mut random, n, inputs::Style::Mixed);
-        worker.tally.inputs += 2;
-        worker.encode(&text, inputs::room(&mut random, 2829), random.mark())?;
+        with_room(worker, &text, &ask::ask(&text), inputs::room(&mut random, 2829), random.mark())?;
         let place = random.below(n);
         text.insert(place, 0x20AC);
-        worker.encode(&text, inputs::room(&mut random, 2829), random.mark()).map(drop)
+        with_room(worker, &text, &ask::ask(&text), inputs::room(&mut random, 2829), random.mark())
     })
 }
 
@@ -193,9 +200,17 @@ struct Met {
     by_moved: HashMap<Vec<u32>, Vec<u8>>,
 }
 
-/// Holds one accepted text against those met: the same row exactly if the same moved text; and the law of texts for short ones.
+/// Holds one text that the crate accepts against those met: its row is the crate's, which begins with its START, and another has the
+/// same row exactly if it has the same moved text; and the law of texts for short ones.
 fn meet(worker: &mut Worker, met: &mut Met, text: &[u32]) -> Result<()> {
-    let Ok(row) = worker.made_row(text) else { return Ok(()) };
+    let Some(row) = ask::row(text) else { return Ok(()) };
+    let ours = worker.made_row(text);
+    if ours.as_ref() != Ok(&row) {
+        return Err(broken(Subject::TextLaw, text.to_vec(), format!("the row: {:?}", Ok::<_, Answer>(&row)), format!("{ours:?}")));
+    }
+    if worker.model.number(&row[..11]).map(usize::from) != SWITCH.iter().position(|&start| start == text[0]).map(|set| 103 + set) {
+        return Err(broken(Subject::Count, text.to_vec(), "a row that begins with its START".into(), format!("{row:?}")));
+    }
     let moved = model::moved(text);
     let by_row = met.by_row.entry(row.clone()).or_insert_with(|| moved.clone());
     let by_moved = met.by_moved.entry(moved.clone()).or_insert_with(|| row.clone());
@@ -225,7 +240,8 @@ fn meet_below(worker: &mut Worker, met: &mut Met, text: &mut Vec<u32>, depth: us
     Ok(())
 }
 
-/// Two accepted texts of a START and up to 5 of the small alphabet have one row exactly if they have one moved text.
+/// Two accepted texts of a START and up to 5 of the small alphabet have one row of the crate exactly if they have one moved text; each
+/// START is held for itself, as a row begins with its START.
 pub fn shared(run: &Run) -> Result<Tally> {
     run.blocks(3, |worker, block| meet_below(worker, &mut Met::default(), &mut vec![SWITCH[block as usize]], 5))
 }

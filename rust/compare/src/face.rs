@@ -1,5 +1,7 @@
 //! The seven jobs as they are called here: the true face, and wrong ones that show that a run finds what it should.
-use crate::model::{self, Model};
+use crate::model::{self, Model, STOP};
+use slatmonief::error::Error;
+use slatmonief::sym::code128::Code128;
 
 /// Answer number and second number.
 pub type Answer = (u32, usize);
@@ -20,6 +22,8 @@ pub trait Face: Sync {
     fn pack(&self, row: &[u8], record: &mut [u8]) -> Answer;
     /// A record to a row.
     fn unpack(&self, record: &[u8], row: &mut [u8]) -> Answer;
+    /// The row by the type with the crate's signatures.
+    fn code128(&self, text: &str) -> Result<Vec<u8>, Error>;
 }
 
 /// The library that is compared.
@@ -55,6 +59,9 @@ impl Face for True {
     fn unpack(&self, record: &[u8], row: &mut [u8]) -> Answer {
         numbers(slatmonief::unpack(record, row))
     }
+    fn code128(&self, text: &str) -> Result<Vec<u8>, Error> {
+        Code128::new(text).map(|code| code.encode())
+    }
 }
 
 /// A wrong answer that can be planted.
@@ -82,10 +89,26 @@ pub enum Plant {
     Points,
     /// Spell asks for one code point more than it needs.
     Room,
+    /// Read tells a wrong check before a wrong stop.
+    CheckFirst,
+    /// Unpack tells a wrong length and spare bits before a wrong version.
+    VersionLast,
+    /// Draw tells a short buffer before a number that may not stand.
+    RoomFirst,
+    /// Encode tells where parsing stops before a later value that is no scalar value.
+    CharacterFirst,
+    /// Refusal 1 with the place of the last such value.
+    LastScalar,
+    /// Refusal 4 with 256 whatever is needed.
+    Needed,
+    /// Pack answers the cells and not the bytes written.
+    Packed,
+    /// The type with the crate's signatures tells `Length` for `Character`.
+    DropIn,
 }
 
 /// Every plant and its name on the command line.
-pub const PLANTS: [(&str, Plant); 11] = [
+pub const PLANTS: [(&str, Plant); 19] = [
     ("place", Plant::Place),
     ("weight", Plant::Weight),
     ("touched", Plant::Touched),
@@ -97,6 +120,14 @@ pub const PLANTS: [(&str, Plant); 11] = [
     ("pair99", Plant::Pair99),
     ("points", Plant::Points),
     ("room", Plant::Room),
+    ("check-first", Plant::CheckFirst),
+    ("version-last", Plant::VersionLast),
+    ("room-first", Plant::RoomFirst),
+    ("character-first", Plant::CharacterFirst),
+    ("last-scalar", Plant::LastScalar),
+    ("needed", Plant::Needed),
+    ("packed", Plant::Packed),
+    ("drop-in", Plant::DropIn),
 ];
 
 /// The true face with one wrong answer planted in it.
@@ -127,6 +158,16 @@ impl Wrong {
     }
 }
 
+/// The place of the last value that is no scalar value.
+fn last_no_scalar(text: &[u32]) -> Option<usize> {
+    text.iter().rposition(|&point| char::from_u32(point).is_none())
+}
+
+/// The row with a right stop.
+fn with_stop(row: &[u8]) -> Vec<u8> {
+    [&row[..row.len() - 13], &STOP].concat()
+}
+
 /// The place of the first Ź that stands right behind a first digit after Ć.
 fn held_at(text: &[u32]) -> Option<usize> {
     (text.first() == Some(&0x106) && text.len() > 2 && (0x30..0x3A).contains(&text[1]) && text[2] == 0x179).then_some(2)
@@ -149,6 +190,12 @@ impl Face for Wrong {
             }
             (Plant::Count, (0, n)) if n >= 9 => (0, n + 1),
             (Plant::Points, (3, _)) if text.len() < 2 => (2, 0),
+            (Plant::CharacterFirst, (1, place)) => match True.encode(&text[..place], &mut []) {
+                (3, stop) if stop < place => (3, stop),
+                _ => answer,
+            },
+            (Plant::LastScalar, (1, first)) => (1, last_no_scalar(text).unwrap_or(first)),
+            (Plant::Needed, (4, _)) => (4, 256),
             (Plant::Held, (0, _)) if held_at(text).is_some() => {
                 row.copy_from_slice(&kept);
                 (3, 2)
@@ -159,6 +206,9 @@ impl Face for Wrong {
 
     fn draw(&self, list: &[u8], row: &mut [u8]) -> Answer {
         let answer = True.draw(list, row);
+        if self.plant == Plant::RoomFirst && answer.0 == 13 && row.len() < model::cells(list.len()) {
+            return (5, model::cells(list.len()));
+        }
         if let (Plant::Behind, (0, n)) = (self.plant, answer) {
             if let Some(cell) = row.get_mut(model::cells(n)) {
                 *cell ^= 1;
@@ -170,6 +220,10 @@ impl Face for Wrong {
     fn read(&self, row: &[u8], list: &mut [u8]) -> Answer {
         match (self.plant, True.read(row, list)) {
             (Plant::Replaced, (14, right)) => True.read(&self.with_check(row, right), list),
+            (Plant::CheckFirst, (15, place)) => match True.read(&with_stop(row), &mut []) {
+                (14, right) => (14, right),
+                _ => (15, place),
+            },
             (_, answer) => answer,
         }
     }
@@ -189,7 +243,10 @@ impl Face for Wrong {
     }
 
     fn pack(&self, row: &[u8], record: &mut [u8]) -> Answer {
-        True.pack(row, record)
+        match (self.plant, True.pack(row, record)) {
+            (Plant::Packed, (0, _)) => (0, row.len()),
+            (_, answer) => answer,
+        }
     }
 
     fn unpack(&self, record: &[u8], row: &mut [u8]) -> Answer {
@@ -199,6 +256,17 @@ impl Face for Wrong {
                 clean[last] = 0;
                 True.unpack(&clean, row)
             }
+            (Plant::VersionLast, (21, version)) => match True.unpack(&[&[1], &record[1..]].concat(), &mut []) {
+                (number @ (22 | 23), second) => (number, second),
+                _ => (21, version),
+            },
+            (_, answer) => answer,
+        }
+    }
+
+    fn code128(&self, text: &str) -> Result<Vec<u8>, Error> {
+        match (self.plant, True.code128(text)) {
+            (Plant::DropIn, Err(Error::Character)) => Err(Error::Length),
             (_, answer) => answer,
         }
     }

@@ -161,6 +161,12 @@ pub fn list(random: &mut Random, n: usize) -> Vec<u8> {
     (0..n).map(|place| if place == 0 { 103 + random.below(3) } else { data(random) } as u8).collect()
 }
 
+/// A symbol list of length n in one set alone (A is 0, B is 1, C is 2), of numbers that a scanner sends something for.
+pub fn list_in(random: &mut Random, n: usize, set: usize) -> Vec<u8> {
+    let end = if set == 2 { 100 } else { 96 };
+    (0..n).map(|place| if place == 0 { 103 + set } else { random.below(end) } as u8).collect()
+}
+
 /// One damage of a list.
 pub fn damage_list(random: &mut Random, list: &mut Vec<u8>) {
     if list.is_empty() {

@@ -102,6 +102,7 @@ impl Worker<'_> {
         let bytes: Vec<u8> = input.iter().map(|&element| element as u8).collect();
         match subject {
             Subject::Encode => self.encode(input, room, mark).map(drop),
+            Subject::DropIn => self.drop_in(input, &ask::ask(input)),
             Subject::Draw => self.draw(&bytes, room, mark).map(drop),
             Subject::Read => self.read(&bytes, room, mark).map(drop),
             Subject::Spell => self.spell(&bytes, room, mark).map(drop),

@@ -1,7 +1,9 @@
 //! Holds the library against the crate barcoders (encode) and against a plain model written from document 01 (the other six jobs).
 //!
-//! Every call is compared in full: answer number, second number and every element of the lent buffer, with a fence around it. What may
-//! differ from the crate stands in [`listed`]; any other difference ends the run, with its input made as small as possible.
+//! Every call is compared in full: answer number, second number and every element of the lent buffer, with a fence around it. What
+//! may differ from the crate is decided in one place, `encode_said` of [`check`] (and `Worker::drop_in` for the type with the crate's
+//! signatures); [`listed`] only counts the calls under each row of docs/DIFFERENCES.md. Any other difference ends the run, with its
+//! input made as small as possible.
 #![warn(missing_docs)]
 
 pub mod ask;
@@ -21,6 +23,7 @@ pub mod run;
 pub mod shrink;
 
 use check::{Fault, Tally, Worker};
+use listed::LIST;
 use run::Run;
 
 /// A part of the comparison.
@@ -67,6 +70,18 @@ pub const PARTS: [Part; 17] = [
     }),
     part("records-random", false, records::random),
 ];
+
+/// The refusals of document 01.
+const REFUSALS: [usize; 15] = [1, 2, 3, 4, 5, 10, 11, 12, 13, 14, 15, 20, 21, 22, 23];
+
+/// What all parts together must meet and this tally did not: an accepted call, each refusal, each row of the list, the type with the
+/// crate's signatures.
+pub fn unmet(tally: &Tally) -> Vec<String> {
+    let kinds = [("an accepted call".into(), tally.accepted), ("the type with the crate's signatures".into(), tally.drop_in)].into_iter();
+    let refused = REFUSALS.iter().map(|&number| (format!("refusal {number}"), tally.refused[number]));
+    let listed = LIST.iter().map(|&(listed, name)| (format!("the row '{name}'"), tally.listed[listed as usize]));
+    kinds.chain(refused).chain(listed).filter(|(_, count)| *count == 0).map(|(what, _)| what).collect()
+}
 
 /// Does one part; a difference comes back as it was met and made small.
 pub fn compare(part: &Part, run: &Run) -> Result<Tally, Box<(Fault, Fault)>> {

@@ -72,12 +72,20 @@ fn whole_run(asked: &Asked, run: &Run) -> Result<(), String> {
             let wrong = asked.wrong.iter().map(|name| format!(" --wrong {name}")).collect::<String>();
             report::fault_lines(part.name, &faults.1, &faults.0, &wrong, asked.seed, asked.random)
         })?;
+        if tally.inputs == 0 {
+            return Err(format!("part {} compared no input (--random {})", part.name, asked.random));
+        }
         println!("{}", report::part_line(part.name, &tally, asked.seed, part_begun.elapsed().as_secs_f64()));
         if part.encode { &mut total } else { &mut rest }.add(&tally);
     }
     let (encode, others) = (total.inputs, rest.inputs);
     total.add(&rest);
+    let unmet = if PARTS.iter().all(|part| wanted(asked, part)) { compare::unmet(&total) } else { Vec::new() };
+    if !unmet.is_empty() {
+        return Err(format!("the run did not meet {}", unmet.join(", ")));
+    }
     println!("{}", report::listed_line(&total));
+    println!("{}", report::others_line(&total));
     println!("{}", report::total_line(encode, others, asked.seed, begun.elapsed().as_secs_f64()));
     Ok(())
 }

@@ -153,13 +153,18 @@ pub fn lengths(run: &Run) -> Result<Tally> {
     })
 }
 
-/// Every n and every job with every buffer length close to what is needed.
+/// Every n and every job with every buffer length close to what is needed: a list of any numbers, and one in each set alone, so that
+/// spell and scan need what they need at most (509 and 508 at n = 255) and at least.
 pub fn rooms(run: &Run) -> Result<Tally> {
     run.blocks(LIMIT as u64, |worker, block| {
         let mut random = Random::new(run.seed, "rooms", block);
         let n = block as usize + 1;
         let list = inputs::list(&mut random, n);
-        rooms_of(worker, &mut random, &list)
+        rooms_of(worker, &mut random, &list)?;
+        (0..3).try_for_each(|set| {
+            let list = inputs::list_in(&mut random, n, set);
+            rooms_of(worker, &mut random, &list)
+        })
     })
 }
 

@@ -1,4 +1,5 @@
 //! The lines that a run prints.
+use crate::ask::MOST_DRAWN;
 use crate::check::{Fault, Subject, Tally, SUBJECTS};
 use crate::listed::LIST;
 
@@ -14,6 +15,9 @@ pub fn part_line(name: &str, tally: &Tally, seed: u64, seconds: f64) -> String {
     if tally.laws > 0 {
         line += &format!("; laws held {}", tally.laws);
     }
+    if tally.drop_in > 0 {
+        line += &format!("; by the crate's signatures {}", tally.drop_in);
+    }
     line + &format!(" (seed {seed}, {seconds:.1} s)")
 }
 
@@ -21,6 +25,12 @@ pub fn part_line(name: &str, tally: &Tally, seed: u64, seconds: f64) -> String {
 pub fn listed_line(tally: &Tally) -> String {
     let rows: Vec<String> = LIST.iter().map(|&(listed, name)| format!("{name}: {}", tally.listed[listed as usize])).collect();
     format!("calls of encode under each row of docs/DIFFERENCES.md: {}", rows.join("; "))
+}
+
+/// How many texts went through the type with the crate's signatures, and how many the crate did not draw.
+pub fn others_line(tally: &Tally) -> String {
+    let undrawn = format!("accepted texts of more than {MOST_DRAWN} code points, their symbols counted and not drawn by the crate: {}", tally.undrawn);
+    format!("texts by the type with the crate's signatures: {}; {undrawn}", tally.drop_in)
 }
 
 /// The last line of a run.
@@ -50,7 +60,10 @@ pub fn fault_lines(part: &str, fault: &Fault, met: &Fault, wrong: &str, seed: u6
     let count = fault.input.len();
     lines += &format!("input:    {:X?} (hex; {count} elements), buffer of {} filled with {:X}\n", fault.input, fault.room, fault.mark);
     lines += &format!("expected: {}\nhere:     {}\n", fault.expected, fault.got);
-    lines += &format!("first met with {} elements: {:X?}, buffer of {} filled with {:X}\n", met.input.len(), met.input, met.room, met.mark);
+    lines += &match fault.subject {
+        Subject::Count => "not made smaller: the claim is one of the whole part, and this is the input that it was met with\n".into(),
+        _ => format!("first met with {} elements: {:X?}, buffer of {} filled with {:X}\n", met.input.len(), met.input, met.room, met.mark),
+    };
     lines += &format!("seed:     {seed}\n");
     if let Some(word) = case_word(fault) {
         lines += &format!("command:  cargo run --release -p compare --{wrong} --case {word}\n");

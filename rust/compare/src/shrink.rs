@@ -1,27 +1,25 @@
 //! Makes the input of a difference as small as possible.
 use crate::check::{Fault, Subject, Worker};
 use crate::model::record_bytes;
-use std::time::{Duration, Instant};
 
-/// The most calls that shrinking makes.
+/// The most calls that shrinking makes; one with a long input counts as one more for every so many elements.
 const TRIES: usize = 40_000;
-/// The longest that shrinking takes.
-const LONGEST: Duration = Duration::from_secs(20);
+/// So many elements.
+const ELEMENTS: usize = 256;
 
 /// Room enough for every job.
 const AMPLE: usize = 2900;
 
-/// The smallest difference so far, the calls that may still be made, and when it began.
+/// The smallest difference so far, and the calls that may still be made.
 struct Shrinker<'a, 'b> {
     worker: &'a mut Worker<'b>,
     best: Fault,
     tries: usize,
-    begun: Instant,
 }
 
 /// Removes, lowers and shortens as long as some difference remains.
 pub fn shrink(worker: &mut Worker, fault: Fault) -> Fault {
-    let mut shrinker = Shrinker { worker, best: fault, tries: TRIES, begun: Instant::now() };
+    let mut shrinker = Shrinker { worker, best: fault, tries: TRIES };
     shrinker.widen();
     loop {
         let removed = shrinker.recount() || shrinker.remove();
@@ -52,10 +50,8 @@ fn lower_values(value: u32) -> impl Iterator<Item = u32> {
 impl Shrinker<'_, '_> {
     /// Calls once; a difference becomes the smallest so far.
     fn differs(&mut self, input: &[u32], room: usize, mark: u8) -> bool {
-        if self.tries == 0 || self.begun.elapsed() > LONGEST {
-            return false;
-        }
-        self.tries -= 1;
+        let Some(left) = self.tries.checked_sub(1 + input.len() / ELEMENTS) else { return false };
+        self.tries = left;
         match self.worker.again(self.best.subject, input, room, mark) {
             Ok(()) => false,
             Err(fault) => {

@@ -67,7 +67,8 @@ fn patterns_follow_their_rule() {
 #[test]
 fn the_list_is_the_one_in_the_docs() {
     let path = concat!(env!("CARGO_MANIFEST_DIR"), "/../../docs/DIFFERENCES.md");
-    let page = std::fs::read_to_string(path).expect("docs/DIFFERENCES.md");
+    let whole = std::fs::read_to_string(path).expect("docs/DIFFERENCES.md");
+    let page = whole.split("\n## ").next().expect("the table stands before the first heading");
     for (place, (listed, name)) in LIST.into_iter().enumerate() {
         assert_eq!(listed as usize, place);
         assert!(page.lines().any(|line| line.starts_with(&format!("| {name} |"))), "{name}");

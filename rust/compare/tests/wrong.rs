@@ -1,9 +1,10 @@
 //! A run must stop at a wrong answer and make its input small: wrong answers are planted and looked for.
-use compare::check::{Fault, Subject};
+use compare::check::{Fault, Subject, Tally};
 use compare::face::{Face, Plant, True, Wrong};
 use compare::model::Model;
 use compare::run::Run;
-use compare::PARTS;
+use compare::{report, unmet, PARTS};
+use std::process::Command;
 
 /// Does one part with few random inputs; the small difference where there is one.
 fn part_of(face: &dyn Face, name: &str, seed: u64, threads: usize) -> Result<String, Box<Fault>> {
@@ -98,6 +99,89 @@ fn code_points_counted_for_bytes() {
 fn a_room_that_is_enough_and_refused() {
     let (subject, input, room, ..) = found(Plant::Room, "lists-random");
     assert_eq!((subject, input, room), (Subject::Spell, vec![103], 1));
+}
+
+#[test]
+fn a_check_told_before_the_stop() {
+    let (subject, input, _, expected, got) = found(Plant::CheckFirst, "read-random");
+    assert_eq!((subject, input.len()), (Subject::Read, 35));
+    assert!(expected.starts_with("15 ") && got.starts_with("14 "), "{expected} and {got}");
+}
+
+#[test]
+fn a_length_told_before_the_version() {
+    let (subject, input, _, expected, got) = found(Plant::VersionLast, "records-random");
+    assert_eq!((subject, input), (Subject::Unpack, vec![0, 0]));
+    assert!(expected.starts_with("21 0, ") && got.starts_with("22 0, "), "{expected} and {got}");
+}
+
+#[test]
+fn a_room_asked_before_the_list() {
+    let (subject, input, room, expected, got) = found(Plant::RoomFirst, "lists-random");
+    assert_eq!((subject, input, room), (Subject::Draw, vec![0], 0));
+    assert!(expected.starts_with("13 0, ") && got.starts_with("5 35, "), "{expected} and {got}");
+}
+
+#[test]
+fn a_character_told_before_a_value_that_is_no_scalar() {
+    let (subject, input, _, expected, got) = found(Plant::CharacterFirst, "encode-random");
+    assert_eq!((subject, input), (Subject::Encode, vec![0, 0, 0x11_0000]));
+    assert!(expected.starts_with("1 2, ") && got.starts_with("3 0, "), "{expected} and {got}");
+}
+
+#[test]
+fn a_wrong_place_of_refusal_1() {
+    let (subject, input, _, expected, got) = found(Plant::LastScalar, "encode-all");
+    assert_eq!((subject, input), (Subject::Encode, vec![0xD800, 0xD800]));
+    assert!(expected.starts_with("1 0, ") && got.starts_with("1 1, "), "{expected} and {got}");
+}
+
+#[test]
+fn a_wrong_number_of_symbols_needed() {
+    let fault = part_of(&Wrong::new(Plant::Needed), "encode-random", 2, 2).expect_err("the planted answer is found");
+    assert_eq!((fault.subject, &fault.input[1..]), (Subject::Encode, &[0; 256][..]));
+    assert!(fault.expected.starts_with("4 257, ") && fault.got.starts_with("4 256, "), "{} and {}", fault.expected, fault.got);
+}
+
+#[test]
+fn a_wrong_number_of_bytes_packed() {
+    let (subject, input, room, expected, got) = found(Plant::Packed, "read-random");
+    assert_eq!((subject, input.len(), room), (Subject::Pack, 35, 7));
+    assert!(expected.starts_with("0 7, ") && got.starts_with("0 35, "), "{expected} and {got}");
+}
+
+#[test]
+fn a_wrong_error_of_the_drop_in_type() {
+    let (subject, input, _, expected, got) = found(Plant::DropIn, "encode-random");
+    assert_eq!((subject, input), (Subject::DropIn, vec![0, 0]));
+    assert_eq!((expected.as_str(), got.as_str()), ("Err(Character)", "Err(Length)"));
+}
+
+/// A part with no input ends the run with status 1.
+#[test]
+fn a_part_with_nothing_in_it() {
+    let words = ["--random", "19", "encode-random", "encode-moved"];
+    let run = Command::new(env!("CARGO_BIN_EXE_compare")).args(words).output().expect("the command runs");
+    let printed = String::from_utf8(run.stdout).expect("text");
+    assert!(run.status.code() == Some(1) && printed.ends_with("part encode-moved compared no input (--random 19)\n"), "{printed}");
+}
+
+/// Each kind of answer that was not met is named.
+#[test]
+fn kinds_that_were_not_met() {
+    let mut tally = Tally { accepted: 1, drop_in: 1, refused: [1; 24], listed: [1; 7], ..Tally::default() };
+    assert_eq!(unmet(&tally), [""; 0]);
+    (tally.refused[23], tally.listed[3]) = (0, 0);
+    assert_eq!(unmet(&tally), ["refusal 23", "the row '÷ for DEL: number 95 in set B'"]);
+    assert_eq!(unmet(&Tally::default()).len(), 2 + 15 + 7);
+}
+
+/// A claim over a whole part is said not to be made smaller.
+#[test]
+fn a_claim_over_a_whole_part() {
+    let fault = compare::check::broken(Subject::Count, vec![0xC0], "one".into(), "none".into());
+    let lines = report::fault_lines("read-all", &fault, &fault, "", 1, 20);
+    assert!(lines.contains("not made smaller") && !lines.contains("--case"), "{lines}");
 }
 
 #[test]
