@@ -1,6 +1,6 @@
 // Code 128 after `src/sym/code128.rs` of barcoders 2.0.0: the table, the character sets, the check, draw and encode.
 ghost use mathlib.Core.Path.{_≡_};
-ghost use Prim.Native.Nat.{_*_, _<_, _≤_};
+ghost use Prim.Native.Nat.{_+_, _*_, _<_, _≤_};
 ghost use lib.ListN.{length, take};
 ghost use lib.Seq.{sets};
 ghost use Rattle.paper.specs.Answers.{Each, accept, into, Gave};
@@ -145,12 +145,12 @@ fn wide(x: u8) -> u32
     x as u32
 }
 
-// Writes `slice` into `out` from place `at`, as far as `out` reaches.
-fn join_at(out: &mut [u8], at: usize, slice: &[u8])
-    requires { ⌜ at ≤ length (now out) ⌝ }
+// Writes `slice` into `out` from place `at` to `end`.
+fn join_at(out: &mut [u8], at: usize, end: usize, slice: &[u8])
+    requires { ⌜ (at + length (now slice) ≡ end) × (end ≤ length (now out)) ⌝ }
     ensures { λ _. ⌜ now (out .exit) ≡ sets (now (out .entry)) at (now (slice .entry)) ⌝ }
 {
-    helpers::join_slices(&mut out[at..], slice);
+    helpers::join_slices(&mut out[at..end], slice);
 }
 
 // Writes the bytes of a number into `part`, the lowest first, as many as it holds.
@@ -221,10 +221,11 @@ fn write_row(symbols: &[u8], out: &mut [u8]) -> Answer
     let quads = chars::quads();
     let check = checksum_value(symbols) as usize;
     let stop = payload + 11;
+    let term = payload + 22;
     join_iters(out, &words, &quads, symbols);
     spread(&mut out[payload..stop], words[check], &quads);
-    join_at(out, stop, &STOP);
-    join_at(out, payload + 22, &TERM);
+    join_at(out, stop, term, &STOP);
+    join_at(out, term, end, &TERM);
     Answer::Done(n)
 }
 

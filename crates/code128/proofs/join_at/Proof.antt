@@ -1,7 +1,7 @@
--- `code128::join_at` meets its contract: what is stored into the part from a place on is stored from there.
+-- `code128::join_at` meets its contract: what is stored into the part between two places is stored from the first on.
 -- Assumes nothing.
 use native.Mathlib.Omega.{arith}
-use Rattle.helpers.proofs.Part.{part-end}
+use Rattle.helpers.proofs.Part.{part-stored}
 use borrow.Author.Needs.{needs}
 use Rattle.code128.proofs.join_at.Statement.{statement}
 use Rattle.code128.proofs.join_at.Tie as tie
@@ -24,7 +24,7 @@ same-length c = search needs
 returns : tie.Need-returns
 returns c =
     let a = c .before .before .before .before .before .before .args in
-    part-end (a .out .now) _ (a .slice .now) (a .at) (omega arith) (c .before .before .join-slices .ensures)
+    part-stored (a .out .now) _ (a .slice .now) (a .at) (a .end) (omega arith) (omega arith) (omega arith) (c .before .before .join-slices .ensures)
 
 pub join-at-spec : {M : Type 1} → statement M
 join-at-spec =

@@ -60,6 +60,9 @@ cast-check c = search needs
 add-stop : tie.Need-add-stop
 add-stop c = search needs
 
+add-term : tie.Need-add-term
+add-term c = search needs
+
 slice-aggregate-join-iters : tie.Need-slice-aggregate-join-iters
 slice-aggregate-join-iters c = search needs
 
@@ -101,9 +104,6 @@ slice-aggregate-join-at c = search needs
 join-at-requires : tie.Need-join-at-requires
 join-at-requires c κs = search needs
 
-add-join-at : tie.Need-add-join-at
-add-join-at c = search needs
-
 slice-aggregate-join-at-2 : tie.Need-slice-aggregate-join-at-2
 slice-aggregate-join-at-2 c = search needs
 
@@ -141,6 +141,7 @@ write-row-spec =
     checksum-value-requires
     cast-check
     add-stop
+    add-term
     slice-aggregate-join-iters
     slice-aggregate-join-iters-2
     join-iters-requires
@@ -153,7 +154,6 @@ write-row-spec =
     spread-requires
     slice-aggregate-join-at
     join-at-requires
-    add-join-at
     slice-aggregate-join-at-2
     join-at-requires-2
     same-length
