@@ -11,9 +11,10 @@ use borrow.Rule.Slice.PartMut.{midOf, putMid, mid-len}
 use Rattle.paper.specs.Iso15417.{pattern, cells}
 use Rattle.paper.proofs.Table.{length-pattern}
 use Rattle.helpers.proofs.Writes.{Writing, writing-begin, writing-block, writing-end}
+use Rattle.helpers.proofs.Gives.{stored-at, stored-then}
 use Rattle.helpers.proofs.Part.{part-stored}
 use Rattle.code128.specs.Words.{words, quads, lowBytes, spreadOf}
-use Rattle.code128.proofs.Rows.{word-pattern, stored-then}
+use Rattle.code128.proofs.Rows.{word-pattern}
 
 -- ---- the bytes of a number
 
@@ -22,7 +23,8 @@ unfolding lowBytes
 length-bytes zero x = refl
 length-bytes (suc k) x = ap suc (length-bytes k (x / 256))
 
--- A loop that stores the bytes of x, as many as l₀ has places; j are stored, and the others are the bytes of `rest`.
+-- A loop that stores the bytes of x, as many as l₀ has places; j are stored, and the others are the
+-- bytes of `rest`.
 pub record Putting (l₀ : List ℕ) (x : ℕ) (l : List ℕ) (rest j : ℕ) : Type 0 where
   pub within : j ≤ length l₀
   pub writes : Writing l₀ 0 (lowBytes (length l₀) x) l j (lowBytes (length l₀ - j) rest)
@@ -65,8 +67,9 @@ module _ {four : List ℕ} (t : four ≡ quads) where
       let z = lowBytes 3 (getD four (v % 8 * 2) 0) in
       let first = length-bytes 4 (getD four (v / 128 % 16) 0) in
       let next = length-bytes 4 (getD four (v / 8 % 16) 0) in
-      let both = stored-then x y l l₁ l₂ 4 a b (sym first) in
-      stored-then (x ++ y) z l l₂ l₃ 8 both c (omega (arith, first, next, length-append x y)) ∙ rw (t, q) refl
+      let last = length-bytes 3 (getD four (v % 8 * 2) 0) in
+      let both = stored-then (stored-at x l l₁ 0 4 a (omega (arith, first))) (stored-at y l₁ l₂ 4 8 b (omega (arith, next))) in
+      stored-then both (stored-at z l₂ l₃ 8 11 c (omega (arith, last))) .stored ∙ rw (t, q) refl
 
 -- ---- the patterns of some numbers
 

@@ -1,19 +1,20 @@
 -- The constants are the paper's, and a row is stored part by part.
 -- Assumes nothing.
 use Prim.Native.Nat.{ℕ, _+_, _*_, _<_}
-use mathlib.Core.Path.{_≡_, refl, sym, ap, _∙_}
+use mathlib.Core.Path.{_≡_, refl, sym}
 use mathlib.Core.List.{List, [], _∷_, _++_, append-nil, append-assoc}
 use native.Mathlib.Omega.{arith}
-use lib.ListN.{length, getD, length-append}
+use lib.ListN.{length, getD}
 use lib.Seq.{sets}
-use borrow.Author.Tests.{lt-leb}
-use Rattle.paper.specs.Answers.{Each, refuse, accept, into}
-use Rattle.paper.specs.Iso15417.{iso15417-computes, pattern, stop, same, check, cells, row}
+use Rattle.helpers.specs.Answers.{Each}
+use Rattle.paper.proofs.Computes.{iso15417-computes}
+use Rattle.paper.specs.Iso15417.{pattern, stop, same, check, cells, row}
 use Rattle.paper.specs.Jobs.{SymbolList, bits}
-use Rattle.paper.proofs.Below.{at}
+use Rattle.helpers.proofs.Below.{at}
 use Rattle.paper.proofs.Table.{as-same, length-pattern}
 use Rattle.paper.proofs.Cells.{Number, cells-append, length-cells, check-small, row-numbers}
-use Rattle.helpers.proofs.Writes.{sets-then}
+use Rattle.helpers.specs.Contracts.{Stored}
+use Rattle.helpers.proofs.Gives.{stored-at, stored-then}
 use Rattle.code128.specs.Words.{wordsFrom, words, lowBytes, quadsFrom, quads, spreadOf}
 
 -- ---- the constants
@@ -53,14 +54,11 @@ pub row-parts : (s : List ℕ) → row s ≡ ((cells s ++ pattern (check s)) ++ 
 unfolding row cells
 row-parts s = rw (cells-append s (check s ∷ []), append-nil, ← stop-parts) (sym (append-assoc (cells s ++ pattern (check s)) stopCells termCells))
 
-pub stored-then : (u v l l₁ l₂ : List ℕ) (k : ℕ) → l₁ ≡ sets l 0 u → l₂ ≡ sets l₁ k v → k ≡ length u → l₂ ≡ sets l 0 (u ++ v)
-stored-then u v l l₁ l₂ k a b e = b ∙ ap (λ (x : List ℕ). sets x k v) a ∙ sets-then u v l 0 k (omega arith)
-
 module _ (s : List ℕ) (proper : SymbolList s) where
   pub payload-numbers : Each Number s
   payload-numbers = each-left Number s (check s ∷ []) (row-numbers s proper)
 
-  -- the payload, the check's word, `STOP` and `TERM`, stored one behind the other
+  -- the payload, the check's word, `STOP` and `TERM`, stored one after the other
   pub row-stored : (l l₁ l₂ l₃ l₄ : List ℕ)
       → l₁ ≡ sets l 0 (cells s)
       → l₂ ≡ sets l₁ (11 * length s) (pattern (check s))
@@ -71,13 +69,8 @@ module _ (s : List ℕ) (proper : SymbolList s) where
       let small : check s < 106 = omega (arith, check-small s) in
       let long = length-cells s payload-numbers in
       let eleven = length-pattern (check s) small in
-      let wide = length-append (cells s) (pattern (check s)) in
-      let behind = length-append (cells s ++ pattern (check s)) stopCells in
-      let checked = stored-then (cells s) (pattern (check s)) l l₁ l₂ (11 * length s) a b (omega arith) in
-      let stopped = stored-then (cells s ++ pattern (check s)) stopCells l l₂ l₃ (11 * length s + 11) checked c (omega arith) in
-      rw (row-parts s) (stored-then ((cells s ++ pattern (check s)) ++ stopCells) termCells l l₃ l₄ (11 * length s + 22) stopped d (omega arith))
-
--- too little room for a row
-pub into-short : (room n : ℕ) (out : List ℕ) (k : ℕ) → room < length out → k ≡ length out → into room (accept n out) ≡ refuse 5 k
-unfolding into
-into-short room n out k h e = rw (lt-leb (length out) room h, e)
+      let end : ℕ = 11 * length s in
+      let payload : Stored (cells s) l 0 l₁ end = stored-at (cells s) l l₁ 0 end a (omega arith) in
+      let checked = stored-then payload (stored-at (pattern (check s)) l₁ l₂ end (end + 11) b (omega arith)) in
+      let stopped = stored-then checked (stored-at stopCells l₂ l₃ (end + 11) (end + 22) c (omega arith)) in
+      rw (row-parts s) (stored-then stopped (stored-at termCells l₃ l₄ (end + 22) (end + 24) d (omega arith)) .stored)

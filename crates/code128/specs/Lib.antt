@@ -1,4 +1,1 @@
-pub mod Sets
-pub mod Tokens
 pub mod Words
-pub mod Stopped

@@ -1,4 +1,5 @@
--- What a row is written from: the 106 patterns as words of eleven bits, and the cells of a word, four at once.
+-- What a row is written from: the 106 patterns as words of eleven bits, and the cells of a word,
+-- four at once. Nobody audits these.
 -- Assumes nothing.
 use Prim.Native.Nat.{ℕ, zero, suc, _+_, _*_, _/_, _%_}
 use mathlib.Core.List.{List, [], _∷_, _++_}
@@ -6,24 +7,26 @@ use lib.ListN.{getD}
 use Rattle.paper.specs.Iso15417.{pattern}
 use Rattle.paper.specs.Jobs.{bits}
 
--- the words of the next so many numbers, m the first; a word's top bit is its first cell
+-- the words of k numbers, m the first; a word's top bit is its first cell
 unfoldable pub wordsFrom : ℕ → ℕ → List ℕ
 wordsFrom zero m = []
 wordsFrom (suc k) m = bits 1024 (pattern m) ∷ wordsFrom k (suc m)
 
+-- the words of all 106
 unfoldable pub words : List ℕ
 words = wordsFrom 106 0
 
--- so many bytes of a number, the lowest first
+-- the k lowest bytes of a number, the lowest first
 unfoldable pub lowBytes : ℕ → ℕ → List ℕ
 lowBytes zero x = []
 lowBytes (suc k) x = (x % 256) ∷ lowBytes k (x / 256)
 
--- the numbers whose bytes are the four bits of i and the next so many
+-- the numbers whose bytes are the four bits of i and of the k - 1 numbers after it
 unfoldable pub quadsFrom : ℕ → ℕ → List ℕ
 quadsFrom zero i = []
 quadsFrom (suc k) i = (i / 8 % 2 + 0x100 * (i / 4 % 2) + 0x10000 * (i / 2 % 2) + 0x1000000 * (i % 2)) ∷ quadsFrom k (suc i)
 
+-- the numbers of all sixteen
 unfoldable pub quads : List ℕ
 quads = quadsFrom 16 0
 

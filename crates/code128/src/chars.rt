@@ -3,7 +3,7 @@ ghost use mathlib.Core.Path.{_≡_};
 ghost use Rattle.paper.specs.Chars.{chars};
 ghost use Rattle.code128.specs.Words.{words, quads};
 
-// The patterns of the 106 symbols, eleven cells each, one pattern a line with its number behind it.
+// The patterns of the 106 symbols, eleven cells each, one pattern a line with its number after it.
 pub const CHARS: [u8; 1166] = [
     1, 1, 0, 1, 1, 0, 0, 1, 1, 0, 0, // 0
     1, 1, 0, 0, 1, 1, 0, 1, 1, 0, 0, // 1
@@ -120,8 +120,8 @@ pub fn table() -> [u8; 1166]
     CHARS
 }
 
-// The same patterns as words of eleven bits, the first cell on top. A row is written from these: a table is copied to the stack
-// by each call, and this one is a fifth of the other's size.
+// The same patterns as words of eleven bits, the first cell on top. A row is written from these: a
+// table is copied to the stack by each call, and this one is a fifth of the other's size.
 pub const WORDS: [u16; 106] = [
     0b11011001100, // 0
     0b11001101100, // 1
@@ -238,7 +238,8 @@ pub fn words() -> [u16; 106]
     WORDS
 }
 
-// Four cells at once, as the bytes of a number, the first cell the lowest: entry i has the cells of i's four bits.
+// Four cells at once, as the bytes of a number, the first cell the lowest: entry i has the cells of
+// i's four bits.
 pub const QUADS: [u32; 16] = [
     0x00_00_00_00, // 0000
     0x01_00_00_00, // 0001

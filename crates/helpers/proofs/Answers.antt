@@ -4,7 +4,7 @@ use Prim.Native.Nat.{ℕ, _≤_}
 use mathlib.Core.Path.{_≡_, refl, sym, ap, ap₂, _∙_}
 use native.Mathlib.Omega.{arith}
 use lib.Dec.{eqb}
-use Rattle.paper.specs.Answers.{if_then_else_}
+use Rattle.helpers.specs.Answers.{if_then_else_}
 use Rattle.helpers.specs.declared.Refusal.{Refusal}
 use Rattle.helpers.specs.declared.Refusal.the-variants.{Scalar, Length, Character, Symbols, Room, Size, Cell, Pattern, Place, Check, Stop, Short, Version, Count, Spare}
 use Rattle.helpers.specs.declared.Answer.{Answer}

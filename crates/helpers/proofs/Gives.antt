@@ -1,23 +1,23 @@
--- A job's promise, made: by a refusal, by one handed on, by an acceptance whose output was stored from place 0 on.
+-- A job's promise, made: by an answer that wrote nothing, handed on, or by an acceptance whose
+-- output was stored from place 0 on.
 -- Assumes nothing.
-use Prim.Native.Nat.{ℕ, _+_, _*_, _≤_}
+use Prim.Native.Nat.{ℕ, _+_, _≤_}
 use mathlib.Core.Path.{_≡_, refl, sym, ap, _∙_}
-use mathlib.Core.List.{List, []}
+use mathlib.Core.List.{List, [], _∷_, _++_}
 use native.Mathlib.Omega.{arith}
-use lib.ListN.{length}
+use lib.ListN.{length, set, take, length-append}
 use lib.Seq.{sets}
-use Rattle.paper.specs.Answers as Paper
-use Rattle.paper.specs.Answers.{Each, refuse, accept, Test, refuses, passes, _then_, ask, noneBad, into, number, second, after, Gave}
-use Rattle.paper.specs.Jobs.{ofList, SymbolList, possibleRow, symbolCount, noCell}
-use Rattle.paper.proofs.Answering.{then-accept, ask-passes, accept-number, into-refuse, into-room}
-use Rattle.paper.proofs.Lists.{symbol-list, cells-tested}
-use Rattle.paper.proofs.Lengths.{possible-row}
+use Rattle.helpers.specs.Answers as Paper
+use Rattle.helpers.specs.Answers.{refuse, accept, number, second, after, Gave}
 use Rattle.helpers.specs.declared.Refusal.{Refusal}
 use Rattle.helpers.specs.declared.Answer.{Answer}
 use Rattle.helpers.specs.declared.Answer.the-variants.{Done, Refused}
-use Rattle.helpers.specs.Numbers.{refusalNumber, numberOf, secondOf, tells}
-use Rattle.helpers.specs.Vetted.{vetted, shaped}
-use Rattle.helpers.proofs.Writes.{sets-front}
+use Rattle.helpers.specs.Numbers.{refusalNumber, numberOf, secondOf}
+use Rattle.helpers.specs.Contracts.{answers, bare, Stored}
+use Rattle.helpers.proofs.Answering.{refuse-not-accept, accept-number}
+use Rattle.helpers.proofs.Writes.{sets-then, sets-front, sets-prefix}
+
+-- ---- a job's promise
 
 -- the job's answer is this refusal, and nothing was written
 pub refused : {a : Paper.Answer} {buf : List ℕ} (r : Refusal) (k : ℕ) → a ≡ refuse (refusalNumber r) k → Gave a (numberOf (Refused r k)) (secondOf (Refused r k)) buf buf
@@ -30,84 +30,55 @@ pub stored : {a : Paper.Answer} {buf m : List ℕ} (n : ℕ) (out : List ℕ) �
 unfolding number second after numberOf secondOf
 stored {a} {buf} {m} n out e h f = record { gave-number = rw e; gave-second = rw e; gave-buffer = f ∙ sets-front buf out h ∙ rw e }
 
--- a refusal of a callee, handed on
-pub handed-on : {a : Paper.Answer} {buf : List ℕ} {v : Answer} {r : Refusal} {k : ℕ} → v ≡ Refused r k → a ≡ refuse (refusalNumber r) k → Gave a (numberOf v) (secondOf v) buf buf
-handed-on {r} {k} e h = rw e (refused r k h)
+-- the job's answer is what a callee answered, which wrote nothing
+pub handed-on : {a : Paper.Answer} {buf : List ℕ} (v : Answer) → answers v ≡ a → Gave a (numberOf v) (secondOf v) buf buf
+unfolding answers number second after numberOf secondOf
+handed-on (Done n) e = rw (← e) (record { gave-number = refl; gave-second = refl; gave-buffer = refl })
+handed-on (Refused r k) e = refused r k (sym e)
 
-pub told-refused : {v : Answer} {r : Refusal} {k : ℕ} {x : Paper.Answer} → v ≡ Refused r k → tells v ≡ x → x ≡ refuse (refusalNumber r) k
-unfolding tells
-told-refused {r} {k} e h = sym h ∙ rw e
+-- what a callee answered, by cases
+pub said-refused : {v : Answer} {r : Refusal} {k : ℕ} {x : Paper.Answer} → v ≡ Refused r k → answers v ≡ x → x ≡ refuse (refusalNumber r) k
+unfolding answers
+said-refused {r} {k} e h = sym h ∙ rw e
 
-pub told-done : {v : Answer} {n : ℕ} {x : Paper.Answer} → v ≡ Done n → tells v ≡ x → x ≡ accept n []
-unfolding tells
-told-done e h = sym h ∙ rw e
+pub said-done : {v : Answer} {n : ℕ} {x : Paper.Answer} → v ≡ Done n → answers v ≡ x → x ≡ accept n []
+unfolding answers
+said-done e h = sym h ∙ rw e
 
--- an answer that wrote nothing, handed on
-pub told-on : {a : Paper.Answer} {buf : List ℕ} (v : Answer) → tells v ≡ a → Gave a (numberOf v) (secondOf v) buf buf
-unfolding tells number second after numberOf secondOf
-told-on (Done n) e = rw (← e) (record { gave-number = refl; gave-second = refl; gave-buffer = refl })
-told-on (Refused r k) e = refused r k (sym e)
+-- a refusal of a callee is the job's, where the job refuses so
+pub refused-on : {a x : Paper.Answer} {buf : List ℕ} {v : Answer} {r : Refusal} {k : ℕ} → v ≡ Refused r k → answers v ≡ x
+    → (x ≡ refuse (refusalNumber r) k → a ≡ refuse (refusalNumber r) k) → Gave a (numberOf v) (secondOf v) buf buf
+refused-on {v} e h f = handed-on v (h ∙ said-refused e h ∙ sym (f (said-refused e h)))
 
--- ---- the first two tests of a job, and what comes behind them
+-- ---- an answer without its output, and the answer
 
-two-refuse : (t u : Test) (n : ℕ) (a : Paper.Answer) (k m : ℕ) → (t then u then accept n []) ≡ refuse k m → (t then u then a) ≡ refuse k m
-unfolding _then_
-two-refuse (refuses j l) u n a k m e = e
-two-refuse passes (refuses j l) n a k m e = e
-two-refuse passes passes n a k m e = absurd (let z : _≡_ {A = ℕ} 0 1 = cc in omega arith)
+pub bare-refuse : (a : Paper.Answer) (k m : ℕ) → bare a ≡ refuse k m → a ≡ refuse k m
+unfolding bare
+bare-refuse (refuse j l) k m e = e
+bare-refuse (accept n out) k m e = refuse-not-accept (sym e)
 
-two-pass : (t u : Test) (n j : ℕ) → (t then u then accept n []) ≡ accept j [] → (t ≡ passes) × (u ≡ passes) × (n ≡ j)
-two-pass t u n j e =
-    let first = then-accept t _ e in
-    let next = then-accept u _ (first .1) in
-    (first .0, next .0, accept-number (next .1))
+pub bare-accept : (a : Paper.Answer) (n : ℕ) → bare a ≡ accept n [] → (out : List ℕ) × (a ≡ accept n out)
+unfolding bare
+bare-accept (refuse j l) n e = refuse-not-accept e
+bare-accept (accept j out) n e = (out, ap (λ (k : ℕ). accept k out) (accept-number e))
 
-two-on : (t u : Test) (n j : ℕ) (a : Paper.Answer) → (t then u then accept n []) ≡ accept j [] → (t then u then a) ≡ a
-unfolding _then_
-two-on t u n j a e = let p = two-pass t u n j e in rw (p .0, p .1)
+-- ---- elements stored one after the other
 
--- draw, spell and scan behind `vet`
-module _ (s : List ℕ) where
-  pub list-refused : (room : ℕ) (a : Paper.Answer) (k m : ℕ) → vetted s ≡ refuse k m → ofList room s a ≡ refuse k m
-  unfolding vetted ofList
-  list-refused room a k m e = rw (two-refuse _ _ _ a k m e) (into-refuse room k m)
+pub stored-one : {out : List ℕ} {at v : ℕ} → Stored (v ∷ []) out at (set out at v) (at + 1)
+stored-one = record { stored = refl; next = refl }
 
-  pub list-passed : (room : ℕ) (a : Paper.Answer) (n : ℕ) → vetted s ≡ accept n [] → ofList room s a ≡ into room a
-  unfolding vetted ofList
-  list-passed room a n e = ap (into room) (two-on _ _ _ n a e)
+pub stored-at : (vs out out′ : List ℕ) (at r : ℕ) → out′ ≡ sets out at vs → r ≡ at + length vs → Stored vs out at out′ r
+stored-at vs out out′ at r e h = record { stored = e; next = h }
 
-  pub list-proper : (n : ℕ) → vetted s ≡ accept n [] → SymbolList s × (n ≡ length s)
-  unfolding vetted
-  list-proper n e =
-      let on = list-passed 0 (accept (length s) []) n e ∙ into-room 0 (length s) [] (omega arith) in
-      (symbol-list 0 s (accept (length s) []) on .0, sym (two-pass _ _ _ _ e .2))
+pub stored-then : {a b out out′ out″ : List ℕ} {at k r : ℕ} → Stored a out at out′ k → Stored b out′ k out″ r → Stored (a ++ b) out at out″ r
+stored-then {a} {b} {out} {out′} {out″} {at} {k} {r} p q =
+    record {
+      stored = q .stored ∙ ap (λ (l : List ℕ). sets l k b) (p .stored) ∙ sets-then a b out at k (p .next);
+      next = omega (arith, p .next, q .next, length-append a b);
+    }
 
--- read and pack behind `shape`
-module _ (cs : List ℕ) where
-  -- what a row's answer is behind its first two tests
-  unfoldable pub ofRow : ℕ → Paper.Answer → Paper.Answer
-  ofRow room a = into room (ask (possibleRow (length cs)) 10 (length cs) then noneBad noCell 11 0 cs then a)
-
-  pub row-refused : (room : ℕ) (a : Paper.Answer) (k m : ℕ) → shaped cs ≡ refuse k m → ofRow room a ≡ refuse k m
-  unfolding shaped ofRow
-  row-refused room a k m e = rw (two-refuse _ _ _ a k m e) (into-refuse room k m)
-
-  pub row-passed : (room : ℕ) (a : Paper.Answer) (n : ℕ) → shaped cs ≡ accept n [] → ofRow room a ≡ into room a
-  unfolding shaped ofRow
-  row-passed room a n e = ap (into room) (two-on _ _ _ n a e)
-
-  -- an accepted shape, taken apart
-  pub record Shaped (n : ℕ) : Type 0 where
-    pub counted : symbolCount (length cs) ≡ n
-    pub sized : length cs ≡ 11 * n + 24
-    pub some : 1 ≤ n
-    pub limited : n ≤ 255
-    pub two-colours : Each (λ c. c ≤ 1) cs
-
-  pub row-proper : (n : ℕ) → shaped cs ≡ accept n [] → Shaped n
-  unfolding shaped
-  row-proper n e =
-      let p = two-pass _ _ _ _ e in
-      let q = possible-row (length cs) (ask-passes _ 10 (length cs) (p .0)) in
-      let same = p .2 in
-      record { counted = same; sized = omega (arith, q .0); some = omega (arith, q .1); limited = omega (arith, q .2); two-colours = cells-tested cs (p .1) }
+-- what was stored at the front stands there
+pub stored-front : {vs buf out : List ℕ} {r : ℕ} → Stored vs buf 0 out r → r ≤ length buf → (n : ℕ) → n ≡ r → take n out ≡ vs
+stored-front {vs} {buf} {out} {r} p h n e =
+    let long : n ≡ length vs = omega (arith, p .next) in
+    ap (take n) (p .stored) ∙ sets-prefix buf vs n long (omega (arith, p .next))

@@ -1,6 +1,10 @@
+pub mod Computes
+pub mod Below
+pub mod Ahead
+pub mod Answering
+pub mod Owed
 pub mod Writes
 pub mod Part
 pub mod Seek
-pub mod Vets
 pub mod Gives
 pub mod Answers

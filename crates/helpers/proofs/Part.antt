@@ -32,7 +32,7 @@ module _ (l : List ℕ) (a k : ℕ) (h : a ≤ length l) where
 pub part-stored : (l m vs : List ℕ) (a e : ℕ) → a ≤ e → e ≤ length l → length vs ≤ e - a → m ≡ sets (midOf a (e - a) l) 0 vs → putMid a (e - a) l m ≡ sets l a vs
 part-stored l m vs a e p q r s = ap (putMid a (e - a) l) s ∙ part-sets l a (e - a) (omega arith) vs (omega (arith, mid-len a e l q))
 
--- stores behind the end of the list count for nothing
+-- stores after the end of the list count for nothing
 sets-take : (vs l : List ℕ) (i : ℕ) → sets l i vs ≡ sets l i (take (length l - i) vs)
 sets-take [] l i = ap (λ (r : List ℕ). sets l i r) (sym (take-nil (length l - i)))
 sets-take (v ∷ vs) l i =

@@ -22,7 +22,8 @@ pub sets-out : (vs l : List ℕ) (i : ℕ) → length l ≤ i → sets l i vs �
 sets-out [] l i h = refl
 sets-out (v ∷ vs) l i h = rw (set-out l i v h) (sets-out vs l (suc i) (omega arith))
 
--- A loop that stores the elements of s into a list from place at, one a turn: l₀ where it begins, l after j turns.
+-- A loop that stores the elements of s into a list from place at, one a turn: l₀ where it begins, l
+-- after j turns.
 pub record Storing (l₀ : List ℕ) (at : ℕ) (s : List ℕ) (l : List ℕ) (j : ℕ) : Type 0 where
   pub within : j ≤ length s
   pub long : length l ≡ length l₀
@@ -47,11 +48,12 @@ storing-end {l₀} {s} {l} {at} {j} p h = rw (drop-of-length-le s h) at (p .left
 pub storing-short : {l₀ s l : List ℕ} {at j : ℕ} → Storing l₀ at s l j → min (length l₀) (at + length s) ≤ at + j → l ≡ sets l₀ at s
 storing-short {l₀} {s} {l} {at} {j} p h = elim (decLe (length s) j) [ yes done ↦ storing-end p done | no more ↦ sym (sets-out (drop j s) l (at + j) (omega (arith, p .long))) ∙ p .left ]
 
--- the same, told forwards
+-- the same, read from the other side
 pub sets-then : (a b l : List ℕ) (i k : ℕ) → k ≡ i + length a → sets (sets l i a) k b ≡ sets l i (a ++ b)
 sets-then a b l i k e = ap (λ (n : ℕ). sets (sets l i a) n b) e ∙ sym (sets-append a b l i)
 
--- A run that stores whole into l₀ from place at₀, on its way: l is what the list is now, and rest, from place at, is left to store.
+-- A run that stores whole into l₀ from place at₀, on its way: l is what the list is now, and rest,
+-- from place at, is left to store.
 pub record Writing (l₀ : List ℕ) (at₀ : ℕ) (whole l : List ℕ) (at : ℕ) (rest : List ℕ) : Type 0 where
   pub long : length l ≡ length l₀
   pub left : sets l at rest ≡ sets l₀ at₀ whole

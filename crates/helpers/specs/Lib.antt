@@ -1,3 +1,5 @@
-pub mod First
+pub mod Prelude
+pub mod Answers
+pub mod Owes
 pub mod Numbers
-pub mod Vetted
+pub mod Contracts

@@ -1,14 +1,12 @@
--- Document 01's numbers for the cases of `Answer`.
--- Assumes nothing.
-use Prim.Native.Nat.{ℕ}
-use mathlib.Core.List.{[]}
-use Rattle.paper.specs.Answers as Paper
-use Rattle.paper.specs.Answers.{refuse, accept}
+-- Document 01's numbers for the cases of the code's `Answer`: "An answer may be an enum. If so, a
+-- definition gives this paper's number and values for each of the enum's cases". Assumes nothing.
+use Rattle.helpers.specs.Prelude.{ℕ}
 use Rattle.helpers.specs.declared.Refusal.{Refusal}
 use Rattle.helpers.specs.declared.Refusal.the-variants.{Scalar, Length, Character, Symbols, Room, Size, Cell, Pattern, Place, Check, Stop, Short, Version, Count, Spare}
 use Rattle.helpers.specs.declared.Answer.{Answer}
 use Rattle.helpers.specs.declared.Answer.the-variants.{Done, Refused}
 
+-- the number of each refusal
 unfoldable pub refusalNumber : Refusal → ℕ
 refusalNumber Scalar = 1
 refusalNumber Length = 2
@@ -26,15 +24,12 @@ refusalNumber Version = 21
 refusalNumber Count = 22
 refusalNumber Spare = 23
 
+-- the answer number: 0 where it is accepted
 unfoldable pub numberOf : Answer → ℕ
 numberOf (Done n) = 0
 numberOf (Refused r k) = refusalNumber r
 
+-- the second number
 unfoldable pub secondOf : Answer → ℕ
 secondOf (Done n) = n
 secondOf (Refused r k) = k
-
--- what an answer that writes nothing tells
-unfoldable pub tells : Answer → Paper.Answer
-tells (Done n) = accept n []
-tells (Refused r k) = refuse (refusalNumber r) k

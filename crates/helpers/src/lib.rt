@@ -1,13 +1,10 @@
-// What every job answers, and writing into a part of a lent buffer: `join_slices` of `src/sym/helpers.rs` of barcoders 2.0.0,
-// which returns a new vector there.
-ghost use Prim.Native.Nat.{_≤_, min};
+// The common floor of every symbology: what a job answers, and writing into a part of a lent
+// buffer, after `join_slices` of `src/sym/helpers.rs` of barcoders 2.0.0, which returns a new
+// vector there.
+ghost use Prim.Native.Nat.{_<_, min};
 ghost use mathlib.Core.Path.{_≡_};
-ghost use lib.Dec.{ltb};
-ghost use lib.ListN.{length, drop};
 ghost use lib.Seq.{sets};
-ghost use Rattle.helpers.specs.First.{firstBad};
-ghost use Rattle.helpers.specs.Numbers.{refusalNumber, numberOf, secondOf, tells};
-ghost use Rattle.helpers.specs.Vetted.{vetted, shaped};
+ghost use Rattle.helpers.specs.Numbers.{refusalNumber, numberOf, secondOf};
 
 // Why a job refuses: document 01's refusals by name, in the order of their numbers.
 pub enum Refusal {
@@ -118,64 +115,9 @@ pub fn join_slices(part: &mut [u8], slice: &[u8])
     }
 }
 
-// The first place of `list` from `from` on whose number is above `most`, or the list's length.
-fn first_above(list: &[u8], from: usize, most: u8) -> usize
-    requires { ⌜ from ≤ length (now list) ⌝ }
-    ensures { λ r. ⌜ r ≡ firstBad (λ x. ltb most x) from (drop from (now (list .entry))) ⌝ }
+// A byte as a number to count with.
+pub fn wide(x: u8) -> usize
+    ensures { λ r. ⌜ (r ≡ x) × (r < 256) ⌝ }
 {
-    let mut i = from;
-    while i < list.len() {
-        if most < list[i] {
-            return i;
-        }
-        i += 1;
-    }
-    i
-}
-
-// The tests that draw, spell and scan begin with: 10, 13.
-pub fn vet(symbols: &[u8]) -> Answer
-    ensures { λ r. ⌜ tells r ≡ vetted (now (symbols .entry)) ⌝ }
-{
-    let n = symbols.len();
-    if n < 1 {
-        return Answer::Refused(Refusal::Size, n);
-    }
-    if 255 < n {
-        return Answer::Refused(Refusal::Size, n);
-    }
-    let start = symbols[0];
-    if start < 103 {
-        return Answer::Refused(Refusal::Place, 0);
-    }
-    if 105 < start {
-        return Answer::Refused(Refusal::Place, 0);
-    }
-    let at = first_above(symbols, 1, 102);
-    if at < n {
-        return Answer::Refused(Refusal::Place, at);
-    }
-    Answer::Done(n)
-}
-
-// The tests that read and pack begin with: 10, 11. A row is accepted with its number of symbols.
-pub fn shape(row: &[u8]) -> Answer
-    ensures { λ r. ⌜ tells r ≡ shaped (now (row .entry)) ⌝ }
-{
-    let len = row.len();
-    if len < 35 {
-        return Answer::Refused(Refusal::Size, len);
-    }
-    if 2829 < len {
-        return Answer::Refused(Refusal::Size, len);
-    }
-    let n = (len - 24) / 11;
-    if len != 11 * n + 24 {
-        return Answer::Refused(Refusal::Size, len);
-    }
-    let at = first_above(row, 0, 1);
-    if at < len {
-        return Answer::Refused(Refusal::Cell, at);
-    }
-    Answer::Done(n)
+    x as usize
 }

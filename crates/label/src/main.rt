@@ -1,12 +1,12 @@
-// The label program: a line of code points in, a line that tells encode's answer out. Its memory is three buffers,
-// however much it reads.
+// The label program: a line of code points in, a line with encode's answer out. Its memory is three
+// buffers, however much it reads.
 ghost use Prim.Native.Nat.{_+_, _≤_};
 ghost use lib.ListN.{length};
 use libc::STDIN_FILENO;
 use libc::STDOUT_FILENO;
 
-// Between two reads: how much of the line's buffer and of the output is filled, whether to read on, and whether the
-// output is open.
+// Between two reads: how much of the line's buffer and of the output is filled, whether to read
+// on, and whether the output is open.
 struct State {
     len: usize,
     used: usize,
@@ -14,29 +14,29 @@ struct State {
     open: bool,
 }
 
-// Writes the output where it has no room for one more answer.
+// Writes the output out where it has no room for one more answer, so that `feed` can get on.
 fn relieve(out: &[u8], len: usize, used: usize) -> State
     requires { ⌜ (used ≤ length (now out)) × (2840 ≤ length (now out)) ⌝ }
     ensures { λ r. ⌜ (r .used) + 2840 ≤ length (now (out .entry)) ⌝ }
 {
     if used <= out.len() - lines::ANSWER {
         return State {
-            len: len,
-            used: used,
+            len,
+            used,
             more: true,
             open: true,
         };
     }
     let open = io::write_all(STDOUT_FILENO, &out[0..used]);
     State {
-        len: len,
+        len,
         used: 0,
         more: open,
-        open: open,
+        open,
     }
 }
 
-// Goes over one chunk.
+// Goes over one chunk; the output is written out as often as it is full.
 fn pump(chunk: &[u8], line: &mut [u8], len: usize, out: &mut [u8], used: usize) -> State
     requires { ⌜ used + 2840 ≤ length (now out) ⌝ }
     ensures { λ r. ⌜ (r .used) + 2840 ≤ length (now (out .entry)) ⌝ }
@@ -71,8 +71,8 @@ fn turn(chunk: &mut [u8], line: &mut [u8], len: usize, out: &mut [u8], used: usi
     let n = io::count(got, chunk);
     if n < 1 {
         return State {
-            len: len,
-            used: used,
+            len,
+            used,
             more: false,
             open: true,
         };
@@ -80,8 +80,8 @@ fn turn(chunk: &mut [u8], line: &mut [u8], len: usize, out: &mut [u8], used: usi
     pump(&chunk[0..n], line, len, out, used)
 }
 
-// Reads to the input's end. A proved loop has to end, and nothing says that the input does: so it counts its turns down,
-// from a number that no run uses up.
+// Reads to the input's end. A proved loop has to end, and nothing says that the input does: so it
+// counts its turns down, from a number that no run uses up.
 fn drain(chunk: &mut [u8], line: &mut [u8], out: &mut [u8]) -> State
     requires { ⌜ 2840 ≤ length (now out) ⌝ }
     ensures { λ r. ⌜ (r .used) + 2840 ≤ length (now (out .entry)) ⌝ }
@@ -99,8 +99,8 @@ fn drain(chunk: &mut [u8], line: &mut [u8], out: &mut [u8]) -> State
         turns -= 1;
     }
     State {
-        len: len,
-        used: used,
+        len,
+        used,
         more: false,
         open: true,
     }
@@ -109,7 +109,7 @@ fn drain(chunk: &mut [u8], line: &mut [u8], out: &mut [u8]) -> State
 // Reads all, and writes what is left: the output so far, and a last line without newline.
 fn main() {
     let mut chunk = [0u8; 65536];
-    let mut line = [0u8; 4097];
+    let mut line = [0u8; lines::LINE];
     let mut out = [0u8; 65536];
     let state = drain(&mut chunk, &mut line, &mut out);
     if !state.open {

@@ -1,55 +1,40 @@
 -- A loop over the lines of a chunk, and the input's end.
 -- Assumes nothing.
-use Prim.Native.Nat.{ℕ, suc, _+_, _-_, _*_, _<_, _≤_, min}
-use mathlib.Core.Path.{_≡_, refl, sym, ap, _∙_}
-use mathlib.Core.Bool.{Bool, true, false}
+use Prim.Native.Nat.{ℕ, _+_, _-_, _*_, _<_, _≤_, min}
+use mathlib.Core.Path.{_≡_, refl, ap, _∙_}
 use mathlib.Core.List.{List, [], _∷_, _++_, append-nil}
 use native.Mathlib.Omega.{arith}
-use borrow.Author.Tests.{leb-true, le-leb}
-use lib.Dec.{leb}
-use lib.ListN.{length, getD, take, drop, length-take, length-append}
-use lib.Seq.{sets, length-sets}
+use borrow.Author.Tests.{le-leb}
+use lib.ListN.{length, getD, take, length-take, length-append}
+use lib.Seq.{length-sets}
 use borrow.Rule.Slice.PartMut.{midOf, putMid, mid-len}
-use Rattle.paper.specs.Answers.{if_then_else_}
-use Rattle.helpers.proofs.Writes.{sets-front}
+use Rattle.helpers.specs.Contracts.{Stored}
 use Rattle.helpers.proofs.Part.{part-end}
-use Rattle.lines.specs.Lines.{lineOut, atEnd}
-use Rattle.lines.specs.Given.{fitting, Wrote, Stored, Holds, Fed, Feeds}
-use Rattle.lines.proofs.Short.{line-short}
-use Rattle.lines.proofs.Texts.{stored-then}
+use Rattle.helpers.proofs.Gives.{stored-then}
+use Rattle.line.specs.Line.{lineOut, fitting, Wrote}
+use Rattle.line.proofs.Short.{line-short}
+use Rattle.line.proofs.Texts.{wrote-fits}
+use Rattle.lines.specs.Lines.{atEnd}
+use Rattle.lines.specs.Given.{Holds, Fed, Feeds}
 use Rattle.lines.proofs.Splits.{holds-line, fed-then, fed-newline}
 
 -- ---- an answer in the part of the output from place u on
-
-pub wrote-fits : {text buf out : List ℕ} {r : ℕ} → Wrote text r buf out → length text ≤ length buf → (r ≡ length text) × (out ≡ sets buf 0 text)
-unfolding fitting
-wrote-fits {text} {buf} {out} {r} p h =
-    let long : r ≡ length text = rw (le-leb (length text) (length buf) h) at (p .wrote-length) in
-    (long, rw (le-leb (length text) (length buf) h, long) at (p .wrote-buffer) ∙ sym (sets-front buf text h))
-
--- whatever fits, no more than the buffer has
-pub wrote-within : {text buf out : List ℕ} {r : ℕ} → Wrote text r buf out → r ≤ length buf
-unfolding fitting
-wrote-within {text} {buf} p = within (leb (length text) (length buf)) refl (p .wrote-length)
-  where
-    within : {r : ℕ} (b : Bool) → leb (length text) (length buf) ≡ b → r ≡ length (if b then text else []) → r ≤ length buf
-    within true e h = omega (arith, leb-true (length text) (length buf) e)
-    within false e h = omega arith
 
 pub answered : (line : List ℕ) {out part : List ℕ} {u r : ℕ} → u + 2840 ≤ length out → Wrote (lineOut line) r (midOf u (length out - u) out) part
     → Stored (lineOut line) out u (putMid u (length out - u) out part) (u + r)
 answered line {out} {part} {u} {r} h w =
     let p = wrote-fits w (omega (arith, line-short line, mid-len u (length out) out (omega arith))) in
-    record { stored = part-end out part (lineOut line) u (omega arith) (p .1); behind = ap (λ (k : ℕ). u + k) (p .0) }
+    record { stored = part-end out part (lineOut line) u (omega arith) (p .1); next = ap (λ (k : ℕ). u + k) (p .0) }
 
 -- ---- the loop
 
--- A loop that has come from place `at` of a chunk to place i: what was stored has at most one answer's bytes for each byte passed.
+-- A loop that has come from place `at` of a chunk to place i: what was stored has at most one
+-- answer's bytes for each byte passed.
 pub record Feeding (chunk : List ℕ) (at : ℕ) (line : List ℕ) (len : ℕ) (out : List ℕ) (used i : ℕ) (line′ : List ℕ) (n : ℕ) (out′ : List ℕ) (u : ℕ)
     : Type 0 where
   pub text : List ℕ
   pub fed : Fed chunk at line len text i line′ n
-  pub put : Stored text out used out′ u
+  pub stores : Stored text out used out′ u
   pub fits : length text ≤ length out - used
   pub most : length text ≤ 2840 * (i - at)
   pub long : length out′ ≡ length out
@@ -58,17 +43,17 @@ pub record Feeding (chunk : List ℕ) (at : ℕ) (line : List ℕ) (len : ℕ) (
 cut-none : {chunk line : List ℕ} {at len n : ℕ} → n ≡ min len (length line) → Fed chunk at line len [] at line n
 cut-none {chunk} {line} {at} {len} {n} e =
     record {
-      before = omega arith;
-      long = refl;
-      within = omega arith;
-      same = λ cur p. (cur, rw (whole cur p) p, λ rest. refl);
+      fed-onward = omega arith;
+      fed-size = refl;
+      fed-within = omega arith;
+      fed-output = λ cur p. (cur, rw (whole cur p) p, λ rest. refl);
     }
   where
     whole : (cur : List ℕ) → Holds cur line len → n ≡ len
-    whole cur p = omega (arith, p .size, p .filled, length-take 4097 cur)
+    whole cur p = omega (arith, p .holds-size, p .holds-count, length-take 4097 cur)
 
 pub feeding-begin : {chunk line out : List ℕ} {at len used n : ℕ} → n ≡ min len (length line) → Feeding chunk at line len out used at line n out used
-feeding-begin e = record { text = []; fed = cut-none e; put = record { stored = refl; behind = omega arith }; fits = omega arith; most = omega arith; long = refl }
+feeding-begin e = record { text = []; fed = cut-none e; stores = record { stored = refl; next = omega arith }; fits = omega arith; most = omega arith; long = refl }
 
 module _ {chunk line out line′ out′ : List ℕ} {at len used i n u : ℕ} (p : Feeding chunk at line len out used i line′ n out′ u) where
   -- to a newline, and what the line gives
@@ -79,36 +64,37 @@ module _ {chunk line out line′ out′ : List ℕ} {at len used i n u : ℕ} (p
       record {
         text = p .text ++ answer;
         fed = fed-then (p .fed) (fed-then g (fed-newline h e));
-        put = stored-then (p .put) s;
-        fits = omega (arith, p .put .behind, p .long, length-append (p .text) answer, line-short (take m line″));
-        most = omega (arith, p .most, p .fed .before, g .before, length-append (p .text) answer, line-short (take m line″));
+        stores = stored-then (p .stores) s;
+        fits = omega (arith, p .stores .next, p .long, length-append (p .text) answer, line-short (take m line″));
+        most = omega (arith, p .most, p .fed .fed-onward, g .fed-onward, length-append (p .text) answer, line-short (take m line″));
         long = ap length (s .stored) ∙ length-sets out′ u answer ∙ p .long;
       }
 
   -- to the chunk's end
   pub feeding-last : {line″ : List ℕ} {k m : ℕ} → Fed chunk i line′ n [] k line″ m → length chunk ≤ k → Feeds chunk at line len out used k line″ m out′ u
   feeding-last g h =
-      record { text = p .text; fed = rw append-nil at (fed-then (p .fed) g); put = p .put; fits = p .fits; on = λ l r. omega arith }
+      record { feeds-text = p .text; feeds-fed = rw append-nil at (fed-then (p .fed) g); feeds-stored = p .stores; feeds-room = p .fits; feeds-on = λ l r. omega arith }
 
   pub feeding-done : length chunk ≤ i → Feeds chunk at line len out used i line′ n out′ u
-  feeding-done h = record { text = p .text; fed = p .fed; put = p .put; fits = p .fits; on = λ l r. omega arith }
+  feeding-done h = record { feeds-text = p .text; feeds-fed = p .fed; feeds-stored = p .stores; feeds-room = p .fits; feeds-on = λ l r. omega arith }
 
   -- no room for one more
   pub feeding-full : length out′ < u + 2840 → Feeds chunk at line len out used i line′ n out′ u
   feeding-full h =
-      record { text = p .text; fed = p .fed; put = p .put; fits = p .fits; on = λ l r. omega (arith, p .put .behind, p .most, p .long) }
+      record { feeds-text = p .text; feeds-fed = p .fed; feeds-stored = p .stores; feeds-room = p .fits; feeds-on = λ l r. omega (arith, p .stores .next, p .most, p .long) }
 
 -- ---- the input's end
 
 pub finish-none : {cur line buf : List ℕ} {len n : ℕ} → n ≡ min len (length line) → n < 1 → Holds cur line len → Wrote (atEnd cur) 0 buf buf
 unfolding atEnd fitting
 finish-none {cur = []} {buf} e h p = record { wrote-length = rw (le-leb 0 (length buf) (omega arith)); wrote-buffer = rw (le-leb 0 (length buf) (omega arith)) }
-finish-none {cur = c ∷ cs} e h p = absurd (omega (arith, p .size, p .filled))
+finish-none {cur = c ∷ cs} e h p = absurd (omega (arith, p .holds-size, p .holds-count))
 
-pub finish-line : {cur line buf out : List ℕ} {len n r : ℕ} → n ≡ min len (length line) → 1 ≤ n → Wrote (lineOut (take n line)) r buf out → Holds cur line len
+-- the part of the buffer from 0 to n has n - 0 bytes
+pub finish-line : {cur line buf out : List ℕ} {len n r : ℕ} → n ≡ min len (length line) → 1 ≤ n → Wrote (lineOut (take (n - 0) line)) r buf out → Holds cur line len
     → Wrote (atEnd cur) r buf out
 unfolding atEnd
-finish-line {cur = []} e h w p = absurd (omega (arith, p .size, p .filled))
+finish-line {cur = []} e h w p = absurd (omega (arith, p .holds-size, p .holds-count))
 finish-line {cur = c ∷ cs} {line} {len} {n} e h w p =
-    let whole : n ≡ len = omega (arith, p .size, p .filled, length-take 4097 (c ∷ cs)) in
+    let whole : n - 0 ≡ len = omega (arith, p .holds-size, p .holds-count, length-take 4097 (c ∷ cs)) in
     rw (ap (λ (k : ℕ). lineOut (take k line)) whole ∙ holds-line p) at w

@@ -1,11 +1,5 @@
-pub mod Bounds
-pub mod Cut
-pub mod Decimals
-pub mod Feeds
-pub mod Forms
-pub mod Runs
-pub mod Short
+pub mod Computes
 pub mod Shown
 pub mod Splits
-pub mod Tells
-pub mod Texts
+pub mod Feeds
+pub mod Runs

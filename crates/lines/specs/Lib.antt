@@ -1,4 +1,3 @@
-pub mod Form
-pub mod Given
 pub mod Lines
+pub mod Given
 pub mod Run

@@ -1,91 +1,67 @@
-// The label program on slices: one line in, one line out, however the input is cut into chunks.
+// The label program's work on slices: the lines of an input that comes in chunks, one line out
+// for each.
 ghost use Prim.Native.Nat.{ℕ, _≤_};
 ghost use mathlib.Core.List.{List};
 ghost use lib.ListN.{length};
-ghost use Rattle.lines.specs.Lines.{lineOut, atEnd};
-ghost use Rattle.lines.specs.Given.{Wrote, Holds, Feeds};
+ghost use Rattle.line.specs.Line.{Wrote};
+ghost use Rattle.lines.specs.Lines.{atEnd};
+ghost use Rattle.lines.specs.Given.{Holds, Feeds};
+use line::answer_line;
 
-mod form;
 mod split;
-mod text;
 
-use form::Form;
-
-// The bytes of a line that tell what it gives: a longer line is `?` whatever follows.
+// The first bytes of a line, which say what it gives: a line that has more than 4,096 is `?`
+// whatever follows.
 pub const LINE: usize = 4097;
 
 // No answer has more bytes.
 pub const ANSWER: usize = 2840;
 
-// Where the work on a chunk stands: the place in it, how much of the line's buffer is filled, how much of the output.
+// Where the work on a chunk stands: the place in it, how much of the line's buffer is filled, and
+// how much of the output.
 pub struct Stand {
     pub at: usize,
     pub len: usize,
     pub used: usize,
 }
 
-// What a line gives, at the front of `out`, where it fits. Answers how many bytes it has.
-pub fn answer_line(line: &[u8], out: &mut [u8]) -> usize
-    ensures { λ r. ⌜ Wrote (lineOut (now (line .entry))) r (now (out .entry)) (now (out .exit)) ⌝ }
-{
-    let mut points = [0u32; 2048];
-    let Form::Points(n) = form::points(line, &mut points) else {
-        return text::write_line(b"?", &[], out);
-    };
-    text::answer_points(&points[0..n], out)
-}
-
-// Goes over the lines of a chunk and stores what they give into `out`, as long as it surely has room for one more.
+// Goes over the lines of a chunk and stores what they give into `out`, while it surely has room
+// for one more.
 pub fn feed(
     chunk: &[u8],
-    at: usize,
+    from: usize,
     line: &mut [u8],
-    len: usize,
+    filled: usize,
     out: &mut [u8],
-    used: usize,
+    stored: usize,
 ) -> Stand
-    ensures { λ r. ⌜ Feeds (now (chunk .entry)) at (now (line .entry)) len (now (out .entry)) used (r .at) (now (line .exit)) (r .len) (now (out .exit)) (r .used) ⌝ }
+    ensures { λ r. ⌜ Feeds (now (chunk .entry)) from (now (line .entry)) filled (now (out .entry)) stored (r .at) (now (line .exit)) (r .len) (now (out .exit)) (r .used) ⌝ }
 {
-    let mut i = at;
-    let mut n = helpers::shorter(len, line.len());
-    let mut u = used;
-    while i < chunk.len() {
+    let mut at = from;
+    let mut len = helpers::shorter(filled, line.len());
+    let mut used = stored;
+    while at < chunk.len() {
         if out.len() < ANSWER {
-            return Stand {
-                at: i,
-                len: n,
-                used: u,
-            };
+            return Stand { at, len, used };
         }
-        if out.len() - ANSWER < u {
-            return Stand {
-                at: i,
-                len: n,
-                used: u,
-            };
+        if out.len() - ANSWER < used {
+            return Stand { at, len, used };
         }
-        let place = split::gather(chunk, i, line, n);
-        i = place.at;
-        n = place.len;
-        if chunk.len() <= i {
-            return Stand {
-                at: i,
-                len: n,
-                used: u,
-            };
+        let place = split::gather(chunk, at, line, len);
+        at = place.at;
+        len = place.len;
+        if chunk.len() <= at {
+            return Stand { at, len, used };
         }
-        u += answer_line(&line[0..n], &mut out[u..]);
-        i += 1;
-        n = 0;
+        used += answer_line(&line[0..len], &mut out[used..]);
+        at += 1;
+        len = 0;
     }
-    Stand {
-        at: i,
-        len: n,
-        used: u,
-    }
+    Stand { at, len, used }
 }
 
-// What the last line gives where the input ends without a newline.
+// What the last line gives where the input ends without a newline, at the front of `out`, where
+// it fits. Returns how many bytes were written.
 pub fn finish(line: &[u8], len: usize, out: &mut [u8]) -> usize
     ensures { λ r. ⌜ ((cur : List ℕ) → Holds cur (now (line .entry)) len → Wrote (atEnd cur) r (now (out .entry)) (now (out .exit))) ⌝ }
     ensures { λ r. ⌜ r ≤ length (now (out .entry)) ⌝ }

@@ -11,7 +11,8 @@ pub struct Place {
     pub len: usize,
 }
 
-// One more byte of a line. A full buffer keeps what it has: it shows that the line is too long, whatever follows.
+// One more byte of a line. A full buffer keeps what it has: it shows that the line is too long,
+// whatever follows.
 fn push(line: &mut [u8], len: usize, b: u8) -> usize
     requires { ⌜ len ≤ length (now line) ⌝ }
     ensures { λ r. ⌜ r ≤ length (now (line .exit)) ⌝ }
@@ -33,7 +34,7 @@ pub(crate) fn gather(chunk: &[u8], at: usize, line: &mut [u8], len: usize) -> Pl
     let mut i = at;
     let mut n = len;
     while i < chunk.len() {
-        if chunk[i] == 10 {
+        if chunk[i] == b'\n' {
             return Place { at: i, len: n };
         }
         n = push(line, n, chunk[i]);

@@ -1,31 +1,31 @@
--- The definitions meet every example, by computation.
--- Assumes nothing.
+-- The definitions give every answer in the tables of Examples.antt, by computation.
+-- tools/examples makes this file. Assumes nothing.
 use mathlib.Core.Path.{_≡_, refl}
 use mathlib.Core.List.{map}
 use Rattle.paper.specs.Iso15417.{cells, count, stop}
 use Rattle.paper.specs.Chars.{chars}
 use Rattle.paper.specs.Rules.{runs, barCells}
-use Rattle.paper.specs.Jobs.{encoding, drawing, reading, spelling, scanning, packing, unpacking}
+use Rattle.paper.specs.Jobs.{encode, draw, read, spell, scan, pack, unpack}
 use Rattle.paper.specs.Labels.{answered, expected}
-use Rattle.paper.specs.Examples.{examples-computes, elevens, joined, asked, given, parsedAs, printedAs, passing, kept, threeJobs, threeAnswers, settles}
-use Rattle.paper.specs.Examples.{settled, ruled, twice, called, left, unstarred, unstarredRecords, longest, order, published, publishedRows, crateChars}
-use Rattle.paper.specs.Examples.{crateStop, crateWidths, crateBars, everyNumber, everySwitch, everyFunction, everyPair, foreignDigits, firstPoints}
-use Rattle.paper.specs.Examples.{documented, randomly, randomlyWrong, checksOn, sweeps, readBack, readLengths, readBlocks, readStops, readChecks}
-use Rattle.paper.specs.Examples.{readLong, lists, badLists, drawShort, spellShort, scanShort, packings, unpackings, settling, buffers, redrawings}
+use Rattle.paper.proofs.Examples.{examples-computes, elevens, joined, asked, given, parsedAs, printedAs, passing, kept, threeJobs, threeAnswers, settles}
+use Rattle.paper.proofs.Examples.{settled, ruled, twice, called, left, unstarred, unstarredRecords, longest, order, published, publishedRows, crateChars}
+use Rattle.paper.proofs.Examples.{crateStop, crateWidths, crateBars, everyNumber, everySwitch, everyFunction, everyPair, foreignDigits, firstPoints}
+use Rattle.paper.proofs.Examples.{documented, randomly, randomlyWrong, checksOn, sweeps, readBack, readLengths, readBlocks, readStops, readChecks}
+use Rattle.paper.proofs.Examples.{readLong, lists, badLists, drawShort, spellShort, scanShort, packings, unpackings, settling, buffers, redrawings}
 
-pub unstarred-hold : map (asked encoding) unstarred ≡ map given unstarred
+pub unstarred-hold : map (asked encode) unstarred ≡ map given unstarred
 unfolding examples-computes
 unstarred-hold = refl
 
-pub unstarredRecords-hold : map (asked unpacking) unstarredRecords ≡ map given unstarredRecords
+pub unstarredRecords-hold : map (asked unpack) unstarredRecords ≡ map given unstarredRecords
 unfolding examples-computes
 unstarredRecords-hold = refl
 
-pub longest-hold : map (asked encoding) longest ≡ map given longest
+pub longest-hold : map (asked encode) longest ≡ map given longest
 unfolding examples-computes
 longest-hold = refl
 
-pub order-hold : map (asked encoding) order ≡ map given order
+pub order-hold : map (asked encode) order ≡ map given order
 unfolding examples-computes
 order-hold = refl
 
@@ -33,7 +33,7 @@ pub published-hold : map parsedAs published ≡ map printedAs published
 unfolding examples-computes
 published-hold = refl
 
-pub publishedRows-hold : map (asked encoding) publishedRows ≡ map given publishedRows
+pub publishedRows-hold : map (asked encode) publishedRows ≡ map given publishedRows
 unfolding examples-computes
 publishedRows-hold = refl
 
@@ -73,11 +73,11 @@ pub everyPair-hold : answered everyPair ≡ expected everyPair
 unfolding examples-computes answered expected
 everyPair-hold = refl
 
-pub foreignDigits-hold : map (asked encoding) foreignDigits ≡ map given foreignDigits
+pub foreignDigits-hold : map (asked encode) foreignDigits ≡ map given foreignDigits
 unfolding examples-computes
 foreignDigits-hold = refl
 
-pub firstPoints-hold : map (asked encoding) firstPoints ≡ map given firstPoints
+pub firstPoints-hold : map (asked encode) firstPoints ≡ map given firstPoints
 unfolding examples-computes
 firstPoints-hold = refl
 
@@ -101,27 +101,27 @@ pub sweeps-hold : map passing sweeps ≡ map kept sweeps
 unfolding examples-computes
 sweeps-hold = refl
 
-pub readBack-hold : map (asked reading) readBack ≡ map given readBack
+pub readBack-hold : map (asked read) readBack ≡ map given readBack
 unfolding examples-computes
 readBack-hold = refl
 
-pub readLengths-hold : map (asked reading) readLengths ≡ map given readLengths
+pub readLengths-hold : map (asked read) readLengths ≡ map given readLengths
 unfolding examples-computes
 readLengths-hold = refl
 
-pub readBlocks-hold : map (asked reading) readBlocks ≡ map given readBlocks
+pub readBlocks-hold : map (asked read) readBlocks ≡ map given readBlocks
 unfolding examples-computes
 readBlocks-hold = refl
 
-pub readStops-hold : map (asked reading) readStops ≡ map given readStops
+pub readStops-hold : map (asked read) readStops ≡ map given readStops
 unfolding examples-computes
 readStops-hold = refl
 
-pub readChecks-hold : map (asked reading) readChecks ≡ map given readChecks
+pub readChecks-hold : map (asked read) readChecks ≡ map given readChecks
 unfolding examples-computes
 readChecks-hold = refl
 
-pub readLong-hold : map (asked reading) readLong ≡ map given readLong
+pub readLong-hold : map (asked read) readLong ≡ map given readLong
 unfolding examples-computes
 readLong-hold = refl
 
@@ -129,35 +129,35 @@ pub lists-hold : map threeJobs lists ≡ map threeAnswers lists
 unfolding examples-computes
 lists-hold = refl
 
-pub badLists-of-drawing : map (asked drawing) badLists ≡ map given badLists
+pub badLists-of-draw : map (asked draw) badLists ≡ map given badLists
 unfolding examples-computes
-badLists-of-drawing = refl
+badLists-of-draw = refl
 
-pub badLists-of-spelling : map (asked spelling) badLists ≡ map given badLists
+pub badLists-of-spell : map (asked spell) badLists ≡ map given badLists
 unfolding examples-computes
-badLists-of-spelling = refl
+badLists-of-spell = refl
 
-pub badLists-of-scanning : map (asked scanning) badLists ≡ map given badLists
+pub badLists-of-scan : map (asked scan) badLists ≡ map given badLists
 unfolding examples-computes
-badLists-of-scanning = refl
+badLists-of-scan = refl
 
-pub drawShort-hold : map (asked drawing) drawShort ≡ map given drawShort
+pub drawShort-hold : map (asked draw) drawShort ≡ map given drawShort
 unfolding examples-computes
 drawShort-hold = refl
 
-pub spellShort-hold : map (asked spelling) spellShort ≡ map given spellShort
+pub spellShort-hold : map (asked spell) spellShort ≡ map given spellShort
 unfolding examples-computes
 spellShort-hold = refl
 
-pub scanShort-hold : map (asked scanning) scanShort ≡ map given scanShort
+pub scanShort-hold : map (asked scan) scanShort ≡ map given scanShort
 unfolding examples-computes
 scanShort-hold = refl
 
-pub packings-hold : map (asked packing) packings ≡ map given packings
+pub packings-hold : map (asked pack) packings ≡ map given packings
 unfolding examples-computes
 packings-hold = refl
 
-pub unpackings-hold : map (asked unpacking) unpackings ≡ map given unpackings
+pub unpackings-hold : map (asked unpack) unpackings ≡ map given unpackings
 unfolding examples-computes
 unpackings-hold = refl
 

@@ -11,10 +11,10 @@ use lib.Dec.{T, eqb, eqb→eq}
 use lib.ListN.{length, getD, take, drop, length-take, length-drop, take-append-drop, List·getD-eq-default, List·getD-append}
 use lib.Seq.{take-nil, getD-take, getD-drop, getD-append-add, ext-getD}
 use borrow.Author.Tests.{eqb-true}
-use Rattle.paper.specs.Answers.{Each}
+use Rattle.helpers.specs.Answers.{Each}
 use Rattle.paper.specs.Jobs.{bits, bytes, eight, unbytes, allZero}
-use Rattle.paper.proofs.Answering.{and-true, each-append}
-use Rattle.paper.proofs.Below.{and-left, and-right, below, at}
+use Rattle.helpers.proofs.Answering.{and-true, each-append}
+use Rattle.helpers.proofs.Below.{and-left, and-right, below, at}
 
 -- ---- eight cells and a byte
 
@@ -31,7 +31,7 @@ at-list f (suc n) t (zero ∷ l) a h = at-list (λ cs. f (0 ∷ cs)) n (search (
 at-list f (suc n) t (suc zero ∷ l) a h = at-list (λ cs. f (1 ∷ cs)) n (search (and-left, and-right)) l (a .1) (le-of-suc-le-suc h)
 at-list f (suc n) t (suc (suc c) ∷ l) a h = absurd (not-suc-le-zero (le-of-suc-le-suc (a .0)))
 
--- the cells of the byte of some cells are those cells, and 0 behind them
+-- the cells of the byte of some cells are those cells, and 0 after them
 cell-of-bits : (l : List ℕ) → Each (λ c. c ≤ 1) l → length l ≤ 8 → (i : ℕ) → i < 8 → getD (eight (bits 128 l)) i 0 ≡ getD l i 0
 unfolding bits eight
 cell-of-bits l a h i m =
@@ -65,7 +65,7 @@ each-split P zero xs a = (tt, a)
 each-split P (suc n) [] a = (tt, tt)
 each-split P (suc n) (x ∷ xs) a = let both = each-split P n xs (a .1) in ((a .0, both .0), both .1)
 
--- the cells of k bytes of some cells are those cells, and 0 behind them
+-- the cells of k bytes of some cells are those cells, and 0 after them
 cell-of-bytes : (k : ℕ) (cs : List ℕ) → Each (λ c. c ≤ 1) cs → (i : ℕ) → i < 8 * k → getD (unbytes (bytes k cs)) i 0 ≡ getD cs i 0
 unfolding bytes unbytes eight
 cell-of-bytes zero cs a i h = absurd (not-suc-le-zero h)
@@ -88,12 +88,12 @@ cell-of-bytes (suc k) cs a i h =
     later l e =
         subst (λ (j : ℕ). getD (eight b ++ u) j 0 ≡ getD cs j 0) (add-sub-of-le l) (getD-append-add (eight b) u (i - 8) 0 ∙ e ∙ getD-drop 8 cs (i - 8) 0)
 
--- lists that have the same cells, with 0 behind their ends, make the same bytes
+-- lists that have the same cells, with 0 after their ends, make the same bytes
 abbrev Alike : List ℕ → List ℕ → Type 0
 Alike cs ds = (i : ℕ) → getD cs i 0 ≡ getD ds i 0
 
-alike-behind : (n : ℕ) (cs ds : List ℕ) → Alike cs ds → Alike (drop n cs) (drop n ds)
-alike-behind n cs ds a i = getD-drop n cs i 0 ∙ a (n + i) ∙ sym (getD-drop n ds i 0)
+alike-after : (n : ℕ) (cs ds : List ℕ) → Alike cs ds → Alike (drop n cs) (drop n ds)
+alike-after n cs ds a i = getD-drop n cs i 0 ∙ a (n + i) ∙ sym (getD-drop n ds i 0)
 
 bits-first : (n w : ℕ) (cs : List ℕ) → bits w (take (suc n) cs) ≡ w * getD cs 0 0 + bits (w / 2) (take n (drop 1 cs))
 unfolding bits
@@ -103,12 +103,12 @@ bits-first n w (c ∷ cs) = refl
 bits-alike : (n w : ℕ) (cs ds : List ℕ) → Alike cs ds → bits w (take n cs) ≡ bits w (take n ds)
 bits-alike zero w cs ds a = refl
 bits-alike (suc n) w cs ds a =
-    rw (bits-first n w cs, bits-first n w ds, a 0, bits-alike n (w / 2) (drop 1 cs) (drop 1 ds) (alike-behind 1 cs ds a))
+    rw (bits-first n w cs, bits-first n w ds, a 0, bits-alike n (w / 2) (drop 1 cs) (drop 1 ds) (alike-after 1 cs ds a))
 
 bytes-alike : (k : ℕ) (cs ds : List ℕ) → Alike cs ds → bytes k cs ≡ bytes k ds
 unfolding bytes
 bytes-alike zero cs ds a = refl
-bytes-alike (suc k) cs ds a = rw (bits-alike 8 128 cs ds a, bytes-alike k (drop 8 cs) (drop 8 ds) (alike-behind 8 cs ds a))
+bytes-alike (suc k) cs ds a = rw (bits-alike 8 128 cs ds a, bytes-alike k (drop 8 cs) (drop 8 ds) (alike-after 8 cs ds a))
 
 -- bytes are the bytes of their cells
 bytes-of-unbytes : (bs : List ℕ) → Each (λ b. b < 256) bs → bytes (length bs) (unbytes bs) ≡ bs

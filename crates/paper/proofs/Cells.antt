@@ -1,4 +1,4 @@
--- The cells of rows: how many they are, and that they tell the numbers.
+-- The cells of rows: their number, and that rows with the same cells have the same numbers.
 -- Assumes nothing.
 use mathlib.Core.Path.{_≡_, refl, sym, ap, ap₂, _∙_}
 use mathlib.Core.List.{List, [], _∷_, _++_, append-assoc}
@@ -8,10 +8,11 @@ use native.Mathlib.Nat.{mod-lt}
 use lib.Dec.{lit<}
 use lib.ListN.{length, take, drop, length-append}
 use lib.Seq.{take-at, drop-at}
-use Rattle.paper.specs.Answers.{Each}
-use Rattle.paper.specs.Iso15417.{iso15417-computes, pattern, stop, weighed, check, cells, row}
+use Rattle.helpers.specs.Answers.{Each}
+use Rattle.paper.proofs.Computes.{iso15417-computes}
+use Rattle.paper.specs.Iso15417.{pattern, stop, weighed, check, cells, row}
 use Rattle.paper.specs.Jobs.{SymbolList, StartThenData}
-use Rattle.paper.proofs.Answering.{each-append, each-map}
+use Rattle.helpers.proofs.Answering.{each-append, each-map}
 use Rattle.paper.proofs.Table.{length-pattern, found-pattern}
 
 abbrev pub Number : ℕ → Type 0

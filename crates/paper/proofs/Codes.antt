@@ -1,4 +1,5 @@
--- The numbers of the code sets: held against the standard's table, bounded, turned round; and what a scanner sends for them.
+-- The numbers of the code sets: held against the standard's table, bounded, turned round; and what
+-- a scanner sends for them.
 -- Assumes nothing.
 use mathlib.Core.Path.{_≡_, refl, ap, _∙_, sym}
 use mathlib.Core.Logic.{_↔_, _⊎_, inl, inr}
@@ -11,33 +12,34 @@ use native.Mathlib.Nat.{le-trans}
 use lib.Dec.{leb, ltb, eqb, T}
 use lib.ListN.{length, getD, length-append}
 use borrow.Author.Tests.{leb-true, ltb-true}
-use Rattle.paper.specs.Answers.{if_then_else_, Each, accept}
+use Rattle.helpers.specs.Answers.{if_then_else_, Each, accept, whole}
 use Rattle.paper.specs.Iso15417.{Set, before, A, B, C, ascii, digits, sent, next, scanned, column}
-use Rattle.paper.specs.Crate.{÷, Span, span, spans, numberIn, pointIn, letters, crate-computes}
-use Rattle.paper.specs.Rules.{at, partsAt, writes, sends, switches, rules-computes}
-use Rattle.paper.specs.Jobs.{whole, scan}
-use Rattle.paper.proofs.Answering.{and-true, each-append, accept-output}
-use Rattle.paper.proofs.Below.{below, at as each-below, and-left, and-right}
+use Rattle.paper.specs.Crate.{÷, Span, span, spans, numberIn, pointIn, letters}
+use Rattle.paper.proofs.Computes.{crate-computes, rules-computes}
+use Rattle.paper.specs.Rules.{spot, differences, writes, sends, switches}
+use Rattle.paper.specs.Jobs.{scan}
+use Rattle.helpers.proofs.Answering.{and-true, each-append, accept-output}
+use Rattle.helpers.proofs.Below.{below, at as each-below, and-left, and-right}
 use Rattle.paper.proofs.Table.{as-equal, as-least}
 use Rattle.paper.proofs.Lists.{symbol-list}
 
 -- ---- the standard's table
 
-pub numbers-written : partsAt writes ≡ at B 95 ∷ []
+pub numbers-written : differences writes ≡ spot B 95 ∷ []
 unfolding rules-computes
 numbers-written = refl
 
-pub numbers-sent : partsAt sends ≡ []
+pub numbers-sent : differences sends ≡ []
 unfolding rules-computes
 numbers-sent = refl
 
-pub numbers-switch : partsAt switches ≡ []
+pub numbers-switch : differences switches ≡ []
 unfolding rules-computes
 numbers-switch = refl
 
-pub numbers-part : (letters B 95 ≡ ÷ ∷ []) × (getD (column B) 95 (ascii 0) ≡ ascii 0x7F)
+pub numbers-differ : (letters B 95 ≡ ÷ ∷ []) × (getD (column B) 95 (ascii 0) ≡ ascii 0x7F)
 unfolding rules-computes
-numbers-part = (refl, refl)
+numbers-differ = (refl, refl)
 
 pub numbers-all : (length (column A) ≡ 103) × (length (column B) ≡ 103) × (length (column C) ≡ 103)
 unfolding rules-computes

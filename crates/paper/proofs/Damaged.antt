@@ -12,15 +12,14 @@ use lib.Dec.{leb, ltb, eqb}
 use lib.ListN.{List·getD-append, length, getD, take, set, length-append, length-set}
 use lib.Seq.{take-at, getD-at, take-add, drop-drop, set-at, set-out, set-append-left}
 use borrow.Author.Tests.{leb-true, ltb-true, eqb-true, le-leb, lt-ltb, le-ltb, eq-eqb, ne-eqb}
-use Rattle.paper.specs.Answers.{if_then_else_, Each, Answer, refuse, accept, Refused, _then_, ask, into}
+use Rattle.helpers.specs.Answers.{if_then_else_, Each, Answer, refuse, accept, Accepted, _then_, ask, into}
 use Rattle.paper.specs.Iso15417.{pattern, stop, check, cells, row}
-use Rattle.paper.specs.Jobs.{most, SymbolList, isData, wrong, fitsAt, cons, block, checked, read}
+use Rattle.paper.specs.Jobs.{most, SymbolList, isData, wrongBlock, fitsAt, withNumber, block, looked, read}
 use Rattle.paper.specs.Damage.{blocksOf, redrawn, blind, verdict}
-use Rattle.paper.proofs.Answering.{true-not-false, and-true, each-set, into-room}
-use Rattle.paper.proofs.Lists.{start-bounds}
+use Rattle.helpers.proofs.Answering.{true-not-false, and-true, each-set, into-room}
+use Rattle.paper.proofs.Lists.{start-bounds, form-length}
 use Rattle.paper.proofs.Cells.{Number, first-block, other-blocks, row-numbers}
 use Rattle.paper.proofs.Reading.{Fits, row-fits, sound, read-cells, read-fits}
-use Rattle.paper.proofs.Lists.{form-length}
 use Rattle.paper.proofs.Primes.{weight, check-set}
 
 -- ---- a row redrawn is the row of the numbers, one of them another
@@ -31,10 +30,10 @@ redrawn-cells [] a i m l rest = absurd (omega arith)
 redrawn-cells (x ∷ u) a zero m l rest = rw (other-blocks x u rest (a .0), append-assoc)
 redrawn-cells (x ∷ u) a (suc i) m l rest =
     let before : 11 * suc i ≡ 11 + 11 * i = omega arith in
-    let behind : 11 * (suc i + 1) ≡ 11 + 11 * (i + 1) = omega arith in
+    let after : 11 * (suc i + 1) ≡ 11 + 11 * (i + 1) = omega arith in
     rw (
       before,
-      behind,
+      after,
       take-add 11 (11 * i) (cells (x ∷ u) ++ rest),
       ← drop-drop (11 * (i + 1)) 11 (cells (x ∷ u) ++ rest),
       first-block x u rest (a .0),
@@ -44,8 +43,8 @@ redrawn-cells (x ∷ u) a (suc i) m l rest =
 
 -- ---- which numbers may stand there then
 
-misfit : (b : ℕ) (u : List ℕ) (i m : ℕ) → Fits b u → i < length u → fitsAt (b + i) m ≡ false → sound b (set u i m) ≡ wrong 13 (b + i)
-unfolding sound block cons
+misfit : (b : ℕ) (u : List ℕ) (i m : ℕ) → Fits b u → i < length u → fitsAt (b + i) m ≡ false → sound b (set u i m) ≡ wrongBlock 13 (b + i)
+unfolding sound block withNumber
 misfit b [] i m f l e = absurd (omega arith)
 misfit b (x ∷ u) zero m f l e = rw (add-zero b, rw (add-zero b) at e)
 misfit b (x ∷ u) (suc i) m f l e = rw (f .0, misfit (suc b) u i m (f .1) (omega arith) (rw (suc-add b i, ← add-suc b i) e), suc-add b i, add-suc b i)
@@ -115,7 +114,7 @@ asked false k m a = refl
 
 pub replaced : (room : ℕ) (s : List ℕ) → SymbolList s → (i m : ℕ) → i ≤ length s → m < 106 → m ≢ getD (blocksOf s) i 0
     → read room (redrawn i m (row s)) ≡ into room (verdict s i m)
-unfolding row verdict blocksOf most checked
+unfolding row verdict blocksOf most looked
 replaced room s a i m l h n = rw (redrawn-cells u (row-numbers s a) i m inside stop) (by-fit (fitsAt i m) refl)
   where
     u : List ℕ
@@ -160,17 +159,17 @@ places-blind s (suc i) m p =
     let d = places-multiple (suc i) (p .0) in
     (le-leb m 102 (p .2), rw (le-leb 1 (suc i) (d .0), lt-ltb (suc i) (length s) (p .1)) (eq-eqb (suc i % 103) 0 (d .1)))
 
-not-refused : (room n k j k′ j′ : ℕ) (out : List ℕ) (f b : Bool) → ¬ Refused (into room (if f then (if b then accept n out else refuse k j) else refuse k′ j′))
+both-true : (room n k j k′ j′ : ℕ) (out : List ℕ) (f b : Bool) → Accepted (into room (if f then (if b then accept n out else refuse k j) else refuse k′ j′))
     → (f ≡ true) × (b ≡ true)
 unfolding into
-not-refused room n k j k′ j′ out true true r = (refl, refl)
-not-refused room n k j k′ j′ out true false r = absurd (r tt)
-not-refused room n k j k′ j′ out false b r = absurd (r tt)
+both-true room n k j k′ j′ out true true r = (refl, refl)
+both-true room n k j k′ j′ out true false r = absurd r
+both-true room n k j k′ j′ out false b r = absurd r
 
 pub replaced-accepted : (room : ℕ) (s : List ℕ) → SymbolList s → length s ≤ room → (i m : ℕ) → i ≤ length s → m < 106 → m ≢ getD (blocksOf s) i 0
-    → (¬ Refused (read room (redrawn i m (row s)))) ↔ (((i ≡ 103) ⊎ (i ≡ 206)) × (i < length s) × (m ≤ 102))
+    → Accepted (read room (redrawn i m (row s))) ↔ (((i ≡ 103) ⊎ (i ≡ 206)) × (i < length s) × (m ≤ 102))
 unfolding verdict most
 replaced-accepted room s a fits i m l h n = rw (replaced room s a i m l h n) (
-  (λ r. let both = not-refused room (length s) 14 (check (set s i m)) 13 i (set s i m) (fitsAt i m) (blind s i) r in blind-places s (a .size) i m (both .0) (both .1)),
-  (λ p. let both = places-blind s i m p in rw (both .0, both .1, into-room room (length s) (set s i m) (rw (length-set s i m) fits)) (λ x. x)),
+  (λ r. let both = both-true room (length s) 14 (check (set s i m)) 13 i (set s i m) (fitsAt i m) (blind s i) r in blind-places s (a .size) i m (both .0) (both .1)),
+  (λ p. let both = places-blind s i m p in rw (both .0, both .1, into-room room (length s) (set s i m) (rw (length-set s i m) fits)) tt),
 )

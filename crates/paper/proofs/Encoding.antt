@@ -10,12 +10,12 @@ use native.Mathlib.Omega.{arith}
 use lib.Dec.{leb, ltb}
 use lib.ListN.{length}
 use borrow.Author.Tests.{leb-true, le-leb, lt-ltb, le-ltb}
-use Rattle.paper.specs.Answers.{if_then_else_, accept, _then_, ask, noneBad, into}
+use Rattle.helpers.specs.Answers.{if_then_else_, accept, _then_, ask, every, into, whole}
 use Rattle.paper.specs.Iso15417.{before, row}
-use Rattle.paper.specs.Crate.{spans, numberIn, pairs, listed, step, State, Parsed, stops, symbols, follow, ending, parseFrom, parse, utf8Of, utf8Bytes, noScalar, spelled}
+use Rattle.paper.specs.Crate.{spans, numberIn, pairs, listed, step, State, Parsed, stops, symbols, follow, finished, parseFrom, parse, utf8Of, utf8Bytes, isScalar, spelled}
 use Rattle.paper.specs.Settle.{settle, inside}
-use Rattle.paper.specs.Jobs.{most, SymbolList, parsed, encode, whole, spell}
-use Rattle.paper.proofs.Answering.{each-map, refuse-not-accept, accept-number, accept-output, then-accept, then-passes, ask-passes, ask-true, into-accept, into-room, all-good}
+use Rattle.paper.specs.Jobs.{most, SymbolList, parsed, encode, spell}
+use Rattle.helpers.proofs.Answering.{each-map, refuse-not-accept, accept-number, accept-output, then-accept, then-passes, ask-passes, ask-true, into-accept, into-room, every-passes}
 use Rattle.paper.proofs.Lists.{symbol-list}
 use Rattle.paper.proofs.Cells.{row-injective, length-row}
 use Rattle.paper.proofs.Settling.{settle-still}
@@ -24,8 +24,8 @@ use Rattle.paper.proofs.Spelling.{stops-not-symbols, parse-settles, par
 
 -- ---- an input that parses passes the tests before parsing
 
-low-scalar : (c : ℕ) → c < 0x182 → noScalar c ≡ false
-unfolding noScalar
+low-scalar : (c : ℕ) → c < 0x182 → isScalar c ≡ true
+unfolding isScalar
 low-scalar c h = rw (lt-ltb c 0xD800 (omega arith))
 
 two-bytes : (c : ℕ) → 0x80 ≤ c → 2 ≤ utf8Of c
@@ -45,7 +45,7 @@ first-wide c none n at rest s e = stops-not-symbols e
 first-wide c (some m) n at rest s e = two-bytes c (number-listed before c m n .wide refl)
 
 parse-wide : (x s : List ℕ) → parse x ≡ symbols s → 2 ≤ utf8Bytes x
-unfolding parse parseFrom ending step pairs utf8Bytes
+unfolding parse parseFrom finished step pairs utf8Bytes
 parse-wide [] s e = stops-not-symbols e
 parse-wide (c ∷ cs) s e = omega (arith, first-wide c (numberIn (spans before) c) refl 0 _ s e)
 
@@ -65,7 +65,7 @@ pub encode-parsed : (room : ℕ) (x s : List ℕ) → parse x ≡ symbols s → 
 unfolding encode parsed
 encode-parsed room x s p =
     rw (
-      then-passes (noneBad noScalar 1 0 x) _ (all-good noScalar 1 0 x (each-map _ _ low-scalar x (parse-low x s p))),
+      then-passes (every isScalar 1 0 x) _ (every-passes isScalar 1 0 x (each-map _ _ low-scalar x (parse-low x s p))),
       then-passes (ask (leb 2 (utf8Bytes x)) 2 0) _ (ask-true _ 2 0 (le-leb 2 (utf8Bytes x) (parse-wide x s p))),
       p,
     )
@@ -83,7 +83,7 @@ encode-exactly room x n r = (there, back)
     there : encode room x ≡ accept n r → (s : List ℕ) × (parse x ≡ symbols s) × (n ≡ length s) × (n ≤ most) × (r ≡ row s) × (length r ≤ room)
     there e =
         let fits = into-accept room _ e in
-        let scalars = then-accept (noneBad noScalar 1 0 x) _ (fits .0) in
+        let scalars = then-accept (every isScalar 1 0 x) _ (fits .0) in
         let bytes = then-accept (ask (leb 2 (utf8Bytes x)) 2 0) _ (scalars .1) in
         let (s, p, count, size, made) = parsed-case (parse x) n r (bytes .1) in
         (s, p, count, size, made, fits .1)

@@ -6,7 +6,7 @@ use mathlib.Core.List.{List}
 use Prim.Native.Nat.{ℕ, _≤_}
 use native.Mathlib.Nat.{le-refl}
 use lib.ListN.{length}
-use Rattle.paper.specs.Answers.{accept}
+use Rattle.helpers.specs.Answers.{accept}
 use Rattle.paper.specs.Crate.{symbols, parse, spelled}
 use Rattle.paper.specs.Jobs.{encode, read}
 use Rattle.paper.proofs.Spelling.{parse-form, parse-spelled}

@@ -7,7 +7,7 @@ use native.Mathlib.Omega.{arith}
 use lib.Dec.{leb, eqb}
 use borrow.Author.Tests.{leb-true, le-leb, eqb-true, eq-eqb}
 use Rattle.paper.specs.Jobs.{most, possible, rowLength, symbolCount, possibleRow}
-use Rattle.paper.proofs.Answering.{and-true}
+use Rattle.helpers.proofs.Answering.{and-true}
 
 -- a number of symbols within the limit, from the test and to it
 pub possible-count : (n : ℕ) → possible n ≡ true → (1 ≤ n) × (n ≤ 255)

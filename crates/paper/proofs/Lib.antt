@@ -1,8 +1,7 @@
+pub mod Computes
 pub mod Labels
+pub mod Examples
 pub mod Against
-pub mod Below
-pub mod Answering
-pub mod Results
 pub mod Lengths
 pub mod Lists
 pub mod Table
@@ -18,5 +17,5 @@ pub mod Damaged
 pub mod Exactly
 pub mod Bytes
 pub mod Records
-pub mod Memory
+pub mod Results
 pub mod Promises

@@ -1,16 +1,17 @@
--- The tests that jobs begin with: 10 and 13 pass exactly the symbol lists, 11 exactly the lists of cells 0 and 1.
+-- The tests that jobs begin with: 10 and 13 pass exactly the symbol lists, 11 exactly the lists of
+-- cells 0 and 1.
 -- Assumes nothing.
 use mathlib.Core.Path.{_≡_, refl}
-use mathlib.Core.Bool.{true, false, not}
+use mathlib.Core.Bool.{true}
 use mathlib.Core.List.{List, [], _∷_}
 use Prim.Native.Nat.{ℕ, _≤_}
 use native.Mathlib.Omega.{arith}
 use lib.ListN.{length}
-use borrow.Author.Tests.{leb-true, le-leb, ltb-false, le-ltb, not-false}
-use Rattle.paper.specs.Answers.{Each, Answer, accept, passes, _then_, ask, noneBad}
-use Rattle.paper.specs.Jobs.{most, possible, noCell, isStart, isData, StartThenData, SymbolList, wellFormed, ofList}
+use borrow.Author.Tests.{leb-true, le-leb}
+use Rattle.helpers.specs.Answers.{Each, Answer, accept, passes, _then_, ask, every}
+use Rattle.paper.specs.Jobs.{most, possible, isCell, isStart, isData, StartThenData, SymbolList, wellFormed, ofList}
 use Rattle.paper.proofs.Lengths.{possible-count, possible-count-of}
-use Rattle.paper.proofs.Answering.{and-true, passed, each-map, then-accept, then-passes, ask-passes, ask-true, into-accept, into-room, none-bad, all-good}
+use Rattle.helpers.proofs.Answering.{and-true, passed, each-map, then-accept, then-passes, ask-passes, ask-true, into-accept, into-room, every-good, every-passes}
 
 -- the two tests of a number, as facts
 
@@ -22,13 +23,13 @@ pub bounds-start : (m : ℕ) → 103 ≤ m → m ≤ 105 → isStart m ≡ true
 unfolding isStart
 bounds-start m low high = rw (le-leb 103 m low, le-leb m 105 high)
 
-data-bound : (k : ℕ) → not (isData k) ≡ false → k ≤ 102
+data-bound : (k : ℕ) → isData k ≡ true → k ≤ 102
 unfolding isData
-data-bound k e = leb-true k 102 (not-false _ e)
+data-bound k e = leb-true k 102 e
 
-bound-data : (k : ℕ) → k ≤ 102 → not (isData k) ≡ false
+bound-data : (k : ℕ) → k ≤ 102 → isData k ≡ true
 unfolding isData
-bound-data k h = rw (le-leb k 102 h)
+bound-data k h = le-leb k 102 h
 
 -- test 13, as a statement
 
@@ -36,14 +37,14 @@ pub wellFormed-form : (s : List ℕ) → 1 ≤ length s → wellFormed s ≡ pas
 unfolding wellFormed
 wellFormed-form [] h e = absurd (omega arith)
 wellFormed-form (m ∷ ms) h e =
-    let both = passed (isStart m) 13 0 (noneBad (λ k. not (isData k)) 13 1 ms) e in
+    let both = passed (isStart m) 13 0 (every isData 13 1 ms) e in
     let bounds = start-bounds m (both .0) in
-    (bounds .0, bounds .1, each-map _ _ data-bound ms (none-bad _ 13 1 ms (both .1)))
+    (bounds .0, bounds .1, each-map _ _ data-bound ms (every-good _ 13 1 ms (both .1)))
 
 pub form-wellFormed : (s : List ℕ) → StartThenData s → wellFormed s ≡ passes
 unfolding wellFormed
 form-wellFormed [] f = absurd f
-form-wellFormed (m ∷ ms) f = rw (bounds-start m (f .0) (f .1)) (all-good _ 13 1 ms (each-map _ _ bound-data ms (f .2)))
+form-wellFormed (m ∷ ms) f = rw (bounds-start m (f .0) (f .1)) (every-passes _ 13 1 ms (each-map _ _ bound-data ms (f .2)))
 
 -- tests 10 and 13 before an answer, and the room after it
 
@@ -72,10 +73,10 @@ list-accepts room s n out h fits =
 
 -- test 11, as a statement
 
-pub cells-tested : (cs : List ℕ) → noneBad noCell 11 0 cs ≡ passes → Each (λ c. c ≤ 1) cs
-unfolding noCell
-cells-tested cs e = each-map (λ c. noCell c ≡ false) (λ c. c ≤ 1) (λ c. ltb-false 1 c) cs (none-bad noCell 11 0 cs e)
+pub cells-tested : (cs : List ℕ) → every isCell 11 0 cs ≡ passes → Each (λ c. c ≤ 1) cs
+unfolding isCell
+cells-tested cs e = each-map (λ c. isCell c ≡ true) (λ c. c ≤ 1) (λ c. leb-true c 1) cs (every-good isCell 11 0 cs e)
 
-pub cells-pass : (cs : List ℕ) → Each (λ c. c ≤ 1) cs → noneBad noCell 11 0 cs ≡ passes
-unfolding noCell
-cells-pass cs a = all-good noCell 11 0 cs (each-map (λ c. c ≤ 1) (λ c. noCell c ≡ false) (λ c. le-ltb 1 c) cs a)
+pub cells-pass : (cs : List ℕ) → Each (λ c. c ≤ 1) cs → every isCell 11 0 cs ≡ passes
+unfolding isCell
+cells-pass cs a = every-passes isCell 11 0 cs (each-map (λ c. c ≤ 1) (λ c. isCell c ≡ true) (λ c. le-leb c 1) cs a)

@@ -1,4 +1,5 @@
--- What one code point does to the parser and what one number gives when spelled, each as one of a few cases.
+-- What one code point does to the parser and what one number gives when spelled, each as one of a
+-- few cases.
 -- Assumes nothing.
 use mathlib.Core.Path.{_≡_, refl, sym, ap, _∙_}
 use mathlib.Core.Bool.{Bool, true, false, _&&_, _||_, not, Bool·beq}
@@ -8,27 +9,28 @@ use Prim.Native.Nat.{ℕ, _+_, _-_, _*_, _<_, _≤_}
 use native.Mathlib.Omega.{arith}
 use lib.Dec.{leb, ltb, eqb, T}
 use borrow.Author.Tests.{leb-true, le-leb, ltb-true, eqb-true, not-true}
-use Rattle.paper.specs.Answers.{if_then_else_, Each}
+use Rattle.helpers.specs.Answers.{if_then_else_, Each}
 use Rattle.paper.specs.Iso15417.{Set, before, A, B, C, next, digits}
 use Rattle.paper.specs.Crate.{Ź, spans, numberIn, pointIn, State, free, held, Step, halt, hold, write, digit, pairs, listed, step, asList, letters}
-use Rattle.paper.specs.Settle.{Hand, outside, between, behind, named, settle-computes}
-use Rattle.paper.specs.Jobs.{StartThenData, isStart, isData, jobs-computes}
-use Rattle.paper.proofs.Answering.{true-not-false, and-true, truth}
-use Rattle.paper.proofs.Below.{below, at, from, and-left, and-right}
+use Rattle.paper.specs.Settle.{Position, outside, between, halfway, switched}
+use Rattle.paper.proofs.Computes.{settle-computes, jobs-computes}
+use Rattle.paper.specs.Jobs.{StartThenData, isStart, isData}
+use Rattle.helpers.proofs.Answering.{true-not-false, and-true, truth}
+use Rattle.helpers.proofs.Below.{below, at, from, and-left, and-right}
 use Rattle.paper.proofs.Lists.{bounds-start}
 use Rattle.paper.proofs.Codes.{least, greatest, numbers-back, number-bound, point-between}
-use Rattle.paper.proofs.Settling.{named-case}
+use Rattle.paper.proofs.Settling.{switched-case}
 
--- ---- states and hands
+-- ---- states and positions
 
 -- in set C one stands between two pairs, elsewhere outside
-abbrev pub handIf : Bool → Hand
-handIf true = between
-handIf false = outside
+abbrev pub positionIf : Bool → Position
+positionIf true = between
+positionIf false = outside
 
-abbrev pub handOf : State → Hand
-handOf (free s) = handIf (pairs s)
-handOf (held d) = behind (48 + d)
+abbrev pub positionOf : State → Position
+positionOf (free s) = positionIf (pairs s)
+positionOf (held d) = halfway (48 + d)
 
 abbrev pub setOf : State → Set
 setOf (free s) = s
@@ -38,6 +40,11 @@ setOf (held d) = C
 abbrev pub Sound : State → Type 0
 Sound (free s) = Unit {0}
 Sound (held d) = d < 10
+
+-- what is a digit
+pub digit-bounds : (c : ℕ) → digit c ≡ true → (48 ≤ c) × (c ≤ 57)
+unfolding digit
+digit-bounds c e = let both = and-true (leb 48 c) (leb c 57) e in (leb-true 48 c (both .0), leb-true c 57 (both .1))
 
 -- ---- a START and then data
 
@@ -99,24 +106,25 @@ pub record Listed (s : Set) (c m : ℕ) : Type 0 where
   pub wide : later s ≡ false → 0x80 ≤ c
   pub no-digit : (pairs s && digit c) ≡ false
   pub no-pair : (pairs s && ltb m 100) ≡ false
-  pub names : named (handIf (pairs s)) c ≡ handIf (pairs (next s m))
+  pub names : switched (positionIf (pairs s)) c ≡ positionIf (pairs (next s m))
 
 -- is one between two pairs of set C?
-inC : Hand → Bool
+inC : Position → Bool
 inC outside = false
 inC between = true
-inC (behind d) = false
+inC (halfway d) = false
 
 -- may m stand there? The test of `Fits`.
 fitting : Bool → ℕ → Bool
 fitting false m = isStart m
 fitting true m = isData m
 
--- the tests of a number m in a set, by its code point there: it has one if it may stand there and is no pair
+-- the tests of a number m in a set, by its code point there: it has one if it may stand there and
+-- is no pair
 judge : Set → ℕ → Option ℕ → Bool
 judge s m none = not (fitting (later s) m) || (pairs s && ltb m 100)
 judge s m (some c) =
-    not (pairs s && digit c) && not (pairs s && ltb m 100) && (later s || leb 0x80 c) && Bool·beq (inC (named (handIf (pairs s)) c)) (pairs (next s m))
+    not (pairs s && digit c) && not (pairs s && ltb m 100) && (later s || leb 0x80 c) && Bool·beq (inC (switched (positionIf (pairs s)) c)) (pairs (next s m))
 
 all-judged : (s : Set) → T (below (λ m. judge s m (pointIn (spans s) m)) 106)
 unfolding judge inC fitting settle-computes jobs-computes
@@ -138,11 +146,11 @@ or-right : (a b : Bool) → T (a || b) → a ≡ false → b ≡ true
 or-right true b t e = true-not-false e
 or-right false b t e = truth b t
 
-named-hand : (b : Bool) (c : ℕ) → named (handIf b) c ≡ handIf (inC (named (handIf b) c))
+named-hand : (b : Bool) (c : ℕ) → switched (positionIf b) c ≡ positionIf (inC (switched (positionIf b) c))
 unfolding inC
-named-hand b c = named-case (λ (g : Hand). g ≡ handIf (inC g)) (handIf b) c refl refl (go b)
+named-hand b c = switched-case (λ (g : Position). g ≡ positionIf (inC g)) (positionIf b) c refl refl (go b)
   where
-    go : (a : Bool) → handIf a ≡ handIf (inC (handIf a))
+    go : (a : Bool) → positionIf a ≡ positionIf (inC (positionIf a))
     go true = refl
     go false = refl
 
@@ -160,7 +168,7 @@ point-listed s c m e =
       wide = λ b. leb-true 0x80 c (or-right (later s) (leb 0x80 c) (search (and-left, and-right) depth 9) b);
       no-digit = not-true _ (truth _ (search (and-left, and-right) depth 9));
       no-pair = not-true _ (truth _ (search (and-left, and-right) depth 9));
-      names = named-hand (pairs s) c ∙ ap handIf (same-truth (inC (named (handIf (pairs s)) c)) (pairs (next s m)) (search (and-left, and-right) depth 9));
+      names = named-hand (pairs s) c ∙ ap positionIf (same-truth (inC (switched (positionIf (pairs s)) c)) (pairs (next s m)) (search (and-left, and-right) depth 9));
     }
 
 pub number-listed : (s : Set) (c m : ℕ) → numberIn (spans s) c ≡ some m → Listed s c m
@@ -172,7 +180,8 @@ listed-letters s c m l = rw (l .no-pair, l .point)
 
 -- ---- one code point
 
--- parsing stops; in set C a first digit is held; a code point has a number; a second digit closes the pair; a Ź passes by the held digit
+-- parsing stops; in set C a first digit is held; a code point has a number; a second digit closes
+-- the pair; a Ź passes by the held digit
 pub data Move : State → ℕ → Step → Type 0 where
   stuck : {q : State} {c : ℕ} → Move q c halt
   holds : {c : ℕ} → digit c ≡ true → Move (free C) c (hold (c - 48))

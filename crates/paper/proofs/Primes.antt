@@ -12,8 +12,8 @@ use lib.Dec.{ltb, eqb, T}
 use lib.ListN.{length, getD, set}
 use borrow.Author.Tests.{ltb-true, eqb-true, eqb-false, eq-eqb, ne-eqb}
 use Rattle.paper.specs.Iso15417.{weighed, check}
-use Rattle.paper.proofs.Answering.{truth}
-use Rattle.paper.proofs.Below.{below, from}
+use Rattle.helpers.proofs.Answering.{truth}
+use Rattle.helpers.proofs.Below.{below, from}
 
 -- no product of two numbers from 1 to 102 is a multiple of 103
 products : T (below (λ i. below (λ j. ltb 0 ((1 + i) * (1 + j) % 103)) 102) 102)
@@ -47,7 +47,8 @@ differ w a b x y n ab ba z e =
       | no l ↦ λ f. shown w b (a - b) y x (omega arith) (omega arith) z (rw (add-sub-of-le {n = a} {m = b} (omega arith)) (sym e)) (sym f)
     ]
 
--- Two sums, alike but for a number of weight w, which is a in the one and b in the other: they agree modulo 103 exactly if w is a multiple of it.
+-- Two sums, alike but for a number of weight w, which is a in the one and b in the other: they
+-- agree modulo 103 exactly if w is a multiple of it.
 pub sums-agree : (w a b x y : ℕ) → a ≢ b → a ≤ b + 102 → b ≤ a + 102 → y + w * a ≡ x + w * b → eqb (x % 103) (y % 103) ≡ eqb (w % 103) 0
 sums-agree w a b x y n ab ba e = weight-case (eqb (w % 103) 0) refl
   where

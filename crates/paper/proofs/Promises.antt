@@ -1,11 +1,11 @@
--- All that is promised holds: each field is a law of its own name in the module that its line below shows.
+-- All that is promised holds: each field is a law of its own name in the module that its line below
+-- shows.
 -- Assumes nothing.
 use Rattle.paper.specs.Promises.{Promises}
-use Rattle.paper.proofs.Labels.{letters-named, labels}
+use Rattle.paper.proofs.Labels.{points-named, labels}
 use Rattle.paper.proofs.Table.{table-length, table-widths, table-rule, table-apart, table-found, table-pattern}
-use Rattle.paper.proofs.Codes.{numbers-written, numbers-sent, numbers-switch, numbers-part, numbers-all, numbers-back, scan-seven-bits}
-use Rattle.paper.proofs.Results.{one-result, refused-by, zero-accepts, refusal-keeps, output-fits, buffer-stays}
-use Rattle.paper.proofs.Memory.{memory-limit}
+use Rattle.paper.proofs.Codes.{numbers-written, numbers-sent, numbers-switch, numbers-differ, numbers-all, numbers-back, scan-seven-bits}
+use Rattle.paper.proofs.Results.{encode-owes, draw-owes, read-owes, spell-owes, scan-owes, pack-owes, unpack-owes}
 use Rattle.paper.proofs.Encoding.{encode-size, encode-exactly, same-row, spell-encodes, spell-only}
 use Rattle.paper.proofs.Settling.{settle-quiet, settle-keeps, settle-order, settle-once, settle-still}
 use Rattle.paper.proofs.Reading.{draw-size, read-size, read-of-draw, draw-of-read}
@@ -24,18 +24,18 @@ promises = record {
   numbers-written = numbers-written;
   numbers-sent = numbers-sent;
   numbers-switch = numbers-switch;
-  numbers-part = numbers-part;
+  numbers-differ = numbers-differ;
   numbers-all = numbers-all;
   numbers-back = numbers-back;
-  letters-named = letters-named;
+  points-named = points-named;
   labels = labels;
-  one-result = one-result;
-  refused-by = refused-by;
-  zero-accepts = zero-accepts;
-  refusal-keeps = refusal-keeps;
-  output-fits = output-fits;
-  buffer-stays = buffer-stays;
-  memory-limit = memory-limit;
+  encode-owes = encode-owes;
+  draw-owes = draw-owes;
+  read-owes = read-owes;
+  spell-owes = spell-owes;
+  scan-owes = scan-owes;
+  pack-owes = pack-owes;
+  unpack-owes = unpack-owes;
   encode-size = encode-size;
   draw-size = draw-size;
   read-size = read-size;

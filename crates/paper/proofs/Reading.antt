@@ -3,16 +3,17 @@
 use mathlib.Core.Path.{_≡_, refl, sym, ap, ap₂, _∙_}
 use mathlib.Core.Bool.{Bool, true, false}
 use mathlib.Core.List.{List, [], _∷_, _++_, append-assoc}
-use Prim.Native.Nat.{ℕ, zero, suc, _+_, _*_, _≤_}
+use Prim.Native.Nat.{ℕ, zero, suc, _+_, _-_, _*_, _≤_}
 use native.Mathlib.Omega.{arith}
 use lib.Dec.{eqb}
 use lib.ListN.{length, getD, take, drop, length-append, take-append-drop, length-drop}
 use lib.Seq.{length-take-le, take-all, drop-drop, take-at, drop-at, take-suc, getD-at}
 use borrow.Author.Tests.{leb-true, le-leb, eqb-true, eq-eqb}
-use Rattle.paper.specs.Answers.{if_then_else_, Each, accept, passes, _then_, ask, noneBad, into}
-use Rattle.paper.specs.Iso15417.{iso15417-computes, pattern, stop, Look, is, unknown, found, check, cells, row}
-use Rattle.paper.specs.Jobs.{jobs-computes, most, SymbolList, StartThenData, rowLength, symbolCount, possibleRow, noCell, isData, Blocks, wrong, numbers, fitsAt, cons, block, blocksFrom, stopsRight, checked, read, draw}
-use Rattle.paper.proofs.Answering.{then-accept, ask-passes, passed, into-accept, into-room, each-append, refuse-not-accept, accept-number, accept-output}
+use Rattle.helpers.specs.Answers.{if_then_else_, Each, Answer, accept, passes, _then_, ask, every, into}
+use Rattle.paper.proofs.Computes.{iso15417-computes, jobs-computes}
+use Rattle.paper.specs.Iso15417.{pattern, stop, Look, is, unknown, found, check, cells, row}
+use Rattle.paper.specs.Jobs.{most, SymbolList, StartThenData, rowLength, symbolCount, possibleRow, isCell, isData, Blocks, wrongBlock, numbers, ofRow, fitsAt, withNumber, block, blocksFrom, looked, lastOf, wanted, read, draw}
+use Rattle.helpers.proofs.Answering.{then-accept, ask-passes, passed, into-accept, into-room, each-append, refuse-not-accept, accept-number, accept-output}
 use Rattle.paper.proofs.Table.{found-pattern, found-is, pattern-cells}
 use Rattle.paper.proofs.Lists.{start-bounds, bounds-start, form-length, symbol-list, list-accepts, cells-tested, cells-pass}
 use Rattle.paper.proofs.Lengths.{possible-row, possible-row-of}
@@ -33,7 +34,7 @@ pub fits-numbers : (b : ℕ) (u : List ℕ) → Fits b u → Each Number u
 fits-numbers b [] f = tt
 fits-numbers b (m ∷ ms) f = (fits-number b m (f .0), fits-numbers (suc b) ms (f .1))
 
--- behind the START they are data
+-- after the START they are data
 fits-data : (b : ℕ) (u : List ℕ) → Fits (suc b) u → Each (λ k. k ≤ 102) u
 unfolding fitsAt isData
 fits-data b [] f = tt
@@ -70,7 +71,7 @@ sound b [] = numbers []
 sound b (m ∷ ms) = block (is m) b (sound (suc b) ms)
 
 pub sound-fits : (b : ℕ) (u : List ℕ) → Fits b u → sound b u ≡ numbers u
-unfolding sound block cons
+unfolding sound block withNumber
 sound-fits b [] f = refl
 sound-fits b (m ∷ ms) f = rw (f .0, sound-fits (suc b) ms (f .1))
 
@@ -79,37 +80,54 @@ unfolding sound blocksFrom
 blocks-cells b [] rest a = refl
 blocks-cells b (m ∷ ms) rest a = rw (first-block m ms rest (a .0), found-pattern m (a .0), other-blocks m ms rest (a .0), blocks-cells (suc b) ms rest (a .1))
 
-cells-clean : (u : List ℕ) → Each Number u → Each (λ c. c ≤ 1) (cells u)
+pub cells-clean : (u : List ℕ) → Each Number u → Each (λ c. c ≤ 1) (cells u)
 unfolding cells
 cells-clean [] a = tt
 cells-clean (m ∷ ms) a = each-append (λ c. c ≤ 1) (pattern m) (cells ms) (pattern-cells m (a .0)) (cells-clean ms (a .1))
 
-stop-clean : Each (λ c. c ≤ 1) stop
+pub stop-clean : Each (λ c. c ≤ 1) stop
 unfolding jobs-computes
 stop-clean = cells-tested stop refl
 
-stop-passes : (at : ℕ) → stopsRight at stop stop ≡ passes
-unfolding iso15417-computes stopsRight
+stop-passes : (at : ℕ) → wanted 15 at stop stop ≡ passes
+unfolding iso15417-computes wanted
 stop-passes at = refl
+
+-- what read asks of the numbers of the blocks, 15 and 14
+abbrev pub judged : ℕ → List ℕ → List ℕ → Answer
+judged n cs ms =
+    wanted 15 (length cs - 13) stop (lastOf 13 cs) then
+    ask (eqb (getD ms n 0) (check (take n ms))) 14 (check (take n ms)) then
+    accept n (take n ms)
+
+-- a row's first two tests pass
+pub of-row : (room : ℕ) (cs : List ℕ) (made : ℕ → Answer) (n : ℕ) → length cs ≡ rowLength n → 1 ≤ n → n ≤ 255 → Each (λ c. c ≤ 1) cs
+    → ofRow room cs made ≡ into room (made n)
+unfolding ofRow _then_ ask
+of-row room cs made n long low high clean =
+    let may = possible-row-of n low high in
+    let sized : possibleRow (length cs) ≡ true = rw long (may .0) in
+    let counted : symbolCount (length cs) ≡ n = rw long (may .1) in
+    rw (sized, counted, cells-pass cs clean)
 
 -- read answers by the walk over the numbers
 pub read-cells : (room : ℕ) (u : List ℕ) (n : ℕ) → Each Number u → length u ≡ n + 1 → 1 ≤ n → n ≤ 255
-    → read room (cells u ++ stop) ≡ into room (checked n (cells u ++ stop) (sound 0 u))
-unfolding read rowLength _then_ ask
+    → read room (cells u ++ stop) ≡ into room (looked (sound 0 u) (judged n (cells u ++ stop)))
+unfolding read rowLength
 read-cells room u n a l low high =
     let long : length (cells u ++ stop) ≡ rowLength n = simp (length-append, length-cells u a, length-stop, l) in
-    let may = possible-row-of n low high in
-    let clean = cells-pass (cells u ++ stop) (each-append (λ c. c ≤ 1) (cells u) stop (cells-clean u a) stop-clean) in
-    rw (long, may .0, may .1, ← l, blocks-cells 0 u stop a, clean)
+    let clean = each-append (λ c. c ≤ 1) (cells u) stop (cells-clean u a) stop-clean in
+    of-row room (cells u ++ stop) _ n long low high clean ∙ rw (← l, blocks-cells 0 u stop a)
 
 -- where all of them may stand, the check is left to ask
 pub read-fits : (room : ℕ) (u : List ℕ) (n : ℕ) → Fits 0 u → length u ≡ n + 1 → 1 ≤ n → n ≤ 255
     → read room (cells u ++ stop) ≡ into room (ask (eqb (getD u n 0) (check (take n u))) 14 (check (take n u)) then accept n (take n u))
-unfolding checked _then_
+unfolding looked lastOf _then_
 read-fits room u n f l low high =
     let a = fits-numbers 0 u f in
-    let long : length (cells u) ≡ 11 * (n + 1) = simp (length-cells u a, l) in
-    read-cells room u n a l low high ∙ rw (sound-fits 0 u f, drop-at (cells u) stop (11 * (n + 1)) long, stop-passes (11 * (n + 1)))
+    let at : ℕ = length (cells u ++ stop) - 13 in
+    let long : length (cells u) ≡ at = omega (arith, length-append (cells u) stop, length-stop) in
+    read-cells room u n a l low high ∙ rw (sound-fits 0 u f, drop-at (cells u) stop at long, stop-passes at)
 
 pub read-row : (room : ℕ) (s : List ℕ) → SymbolList s → length s ≤ room → read room (row s) ≡ accept (length s) s
 unfolding row most ask _then_
@@ -119,71 +137,72 @@ read-row room s a h =
 
 -- ---- what read accepts
 
-fitted : (b m : ℕ) (t : Bool) (rest : Blocks) (ms : List ℕ) → fitsAt b m ≡ t → (if t then cons m rest else wrong 13 b) ≡ numbers ms
+fitted : (b m : ℕ) (t : Bool) (rest : Blocks) (ms : List ℕ) → fitsAt b m ≡ t → (if t then withNumber m rest else wrongBlock 13 b) ≡ numbers ms
     → (ks : List ℕ) × (fitsAt b m ≡ true) × (rest ≡ numbers ks) × (ms ≡ m ∷ ks)
-unfolding cons
-fitted b m true (wrong k c) ms e q = absurd (let z : _≡_ {A = ℕ} 0 1 = cc in omega arith)
+unfolding withNumber
+fitted b m true (wrongBlock k c) ms e q = absurd (let z : _≡_ {A = ℕ} 0 1 = cc in omega arith)
 fitted b m true (numbers ks) ms e q = (ks, e, refl, cc)
 fitted b m false rest ms e q = absurd (let z : _≡_ {A = ℕ} 0 1 = cc in omega arith)
 
-looked : (l : Look) (b : ℕ) (rest : Blocks) (ms : List ℕ) → block l b rest ≡ numbers ms
+block-numbers : (l : Look) (b : ℕ) (rest : Blocks) (ms : List ℕ) → block l b rest ≡ numbers ms
     → (m : ℕ) × (ks : List ℕ) × (l ≡ is m) × (fitsAt b m ≡ true) × (rest ≡ numbers ks) × (ms ≡ m ∷ ks)
 unfolding block
-looked (is m) b rest ms e = let r = fitted b m (fitsAt b m) rest ms refl e in (m, r .0, refl, r .1, r .2, r .3)
-looked unknown b rest ms e = absurd (let z : _≡_ {A = ℕ} 0 1 = cc in omega arith)
+block-numbers (is m) b rest ms e = let r = fitted b m (fitsAt b m) rest ms refl e in (m, r .0, refl, r .1, r .2, r .3)
+block-numbers unknown b rest ms e = absurd (let z : _≡_ {A = ℕ} 0 1 = cc in omega arith)
 
--- what the numbers of so many blocks tell of the cells
-record Told (n b : ℕ) (cs ms : List ℕ) : Type 0 where
+-- what follows from the numbers of n blocks for the cells
+record Walked (n b : ℕ) (cs ms : List ℕ) : Type 0 where
   fit : Fits b ms
   count : length ms ≡ n
   drawn-so : cs ≡ cells ms ++ drop (11 * n) cs
 
-told : (n b : ℕ) (cs ms : List ℕ) → blocksFrom n b cs ≡ numbers ms → Told n b cs ms
+walked : (n b : ℕ) (cs ms : List ℕ) → blocksFrom n b cs ≡ numbers ms → Walked n b cs ms
 unfolding blocksFrom cells
-told zero b cs ms e = let none : ms ≡ [] = cc in record { fit = rw none tt; count = rw none; drawn-so = rw none }
-told (suc n) b cs ms e =
-    let r = looked (found (take 11 cs)) b (blocksFrom n (suc b) (drop 11 cs)) ms e in
-    let t = told n (suc b) (drop 11 cs) (r .1) (r .4) in
+walked zero b cs ms e = let none : ms ≡ [] = cc in record { fit = rw none tt; count = rw none; drawn-so = rw none }
+walked (suc n) b cs ms e =
+    let r = block-numbers (found (take 11 cs)) b (blocksFrom n (suc b) (drop 11 cs)) ms e in
+    let t = walked n (suc b) (drop 11 cs) (r .1) (r .4) in
     let more : 11 + 11 * n ≡ 11 * suc n = omega arith in
-    let behind : drop (11 * n) (drop 11 cs) ≡ drop (11 * suc n) cs = rw more at (drop-drop (11 * n) 11 cs) in
+    let others : drop (11 * n) (drop 11 cs) ≡ drop (11 * suc n) cs = rw more at (drop-drop (11 * n) 11 cs) in
     let whole : pattern (r .0) ++ (cells (r .1) ++ drop (11 * n) (drop 11 cs)) ≡ cs =
     rw (← found-is (take 11 cs) (r .0) (r .2) .0, ← t .drawn-so) (take-append-drop 11 cs) in
-    record { fit = rw (r .5) (r .3, t .fit); count = rw (r .5) (ap suc (t .count)); drawn-so = rw (r .5, append-assoc, ← behind) (sym whole) }
+    record { fit = rw (r .5) (r .3, t .fit); count = rw (r .5) (ap suc (t .count)); drawn-so = rw (r .5, append-assoc, ← others) (sym whole) }
 
-stopped : (at : ℕ) (ys cs : List ℕ) → length cs ≡ length ys → stopsRight at ys cs ≡ passes → cs ≡ ys
-unfolding stopsRight
+stopped : (at : ℕ) (ys cs : List ℕ) → length cs ≡ length ys → wanted 15 at ys cs ≡ passes → cs ≡ ys
+unfolding wanted
 stopped at [] [] l e = refl
 stopped at [] (c ∷ cs) l e = absurd (omega arith)
 stopped at (y ∷ ys) [] l e = absurd (omega arith)
 stopped at (y ∷ ys) (c ∷ cs) l e =
-    let both = passed (eqb c y) 15 at (stopsRight (suc at) ys cs) e in
+    let both = passed (eqb c y) 15 at (wanted 15 (suc at) ys cs) e in
     ap₂ (λ (x : ℕ) (xs : List ℕ). x ∷ xs) (eqb-true c y (both .0)) (stopped (suc at) ys cs (omega arith) (both .1))
 
 -- cells of the length for k symbols, read into blocks and accepted
 read-out : (k : ℕ) (r : List ℕ) (n : ℕ) (s : List ℕ) → length r ≡ 11 * (k + 1) + 13 → 1 ≤ k → k ≤ 255
-    → (bs : Blocks) → blocksFrom (k + 1) 0 r ≡ bs → checked k r bs ≡ accept n s → SymbolList s × (r ≡ row s) × (n ≡ length s)
-unfolding checked most row
-read-out k r n s l low high (wrong c b) q e = refuse-not-accept e
+    → (bs : Blocks) → blocksFrom (k + 1) 0 r ≡ bs → looked bs (judged k r) ≡ accept n s → SymbolList s × (r ≡ row s) × (n ≡ length s)
+unfolding looked lastOf most row
+read-out k r n s l low high (wrongBlock c b) q e = refuse-not-accept e
 read-out k r n s l low high (numbers ms) q e =
-    let t = told (k + 1) 0 r ms q in
-    let stops = then-accept (stopsRight (11 * (k + 1)) stop (drop (11 * (k + 1)) r)) _ e in
+    let t = walked (k + 1) 0 r ms q in
+    let stops = then-accept (wanted 15 (length r - 13) stop (drop (length r - 13) r)) _ e in
+    let place : length r - 13 ≡ 11 * (k + 1) = omega arith in
     let checks = then-accept (ask (eqb (getD ms k 0) (check (take k ms))) 14 (check (take k ms))) _ (stops .1) in
     let front : take k ms ≡ s = accept-output (checks .1) in
     let last : getD ms k 0 ≡ check (take k ms) = eqb-true _ _ (ask-passes _ _ _ (checks .0)) in
     let size : length ms ≡ k + 1 = t .count in
     let long : length s ≡ k = rw front at (length-take-le k ms (omega arith)) in
     let all : s ++ (check s ∷ []) ≡ ms = rw (← front, ← last, ← take-suc ms k 0 (omega arith)) (take-all (suc k) ms (omega arith)) in
-    let tail : drop (11 * (k + 1)) r ≡ stop = stopped (11 * (k + 1)) stop (drop (11 * (k + 1)) r) (simp (length-drop, length-stop) (omega arith)) (stops .0) in
+    let tail : drop (11 * (k + 1)) r ≡ stop = rw place at (stopped (length r - 13) stop (drop (length r - 13) r) (simp (length-drop, length-stop) (omega arith)) (stops .0)) in
     let form : Fits 0 s = fits-append 0 s (check s) (rw all (t .fit)) in
     (record { form = fits-form s (omega arith) form; size = omega arith }, rw (all, ← tail) (t .drawn-so), sym (accept-number (checks .1)) ∙ sym long)
 
 pub accepted : (room : ℕ) (r : List ℕ) (n : ℕ) (s : List ℕ) → read room r ≡ accept n s → SymbolList s × (r ≡ row s) × (n ≡ length s)
-unfolding read
+unfolding read ofRow
 accepted room r n s e =
     let k : ℕ = symbolCount (length r) in
-    let fits = into-accept room (ask (possibleRow (length r)) 10 (length r) then noneBad noCell 11 0 r then checked k r (blocksFrom (k + 1) 0 r)) e in
+    let fits = into-accept room (ask (possibleRow (length r)) 10 (length r) then every isCell 11 0 r then looked (blocksFrom (k + 1) 0 r) (judged k r)) e in
     let sized = then-accept (ask (possibleRow (length r)) 10 (length r)) _ (fits .0) in
-    let clean = then-accept (noneBad noCell 11 0 r) _ (sized .1) in
+    let clean = then-accept (every isCell 11 0 r) _ (sized .1) in
     let may = possible-row (length r) (ask-passes _ _ _ (sized .0)) in
     read-out k r n s (may .0) (may .1) (may .2) (blocksFrom (k + 1) 0 r) refl (clean .1)
 

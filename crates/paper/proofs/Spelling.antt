@@ -9,49 +9,47 @@ use native.Mathlib.Omega.{arith}
 use lib.Dec.{leb, ltb}
 use lib.ListN.{length, length-append}
 use borrow.Author.Tests.{leb-true, le-leb, lt-ltb, ne-eqb}
-use Rattle.paper.specs.Answers.{if_then_else_, Each}
+use Rattle.helpers.specs.Answers.{if_then_else_, Each}
 use Rattle.paper.specs.Iso15417.{Set, before, A, B, C, next, digits}
-use Rattle.paper.specs.Crate.{À, Ɓ, Ć, Ź, spans, pointIn, State, free, held, Step, write, digit, pairs, listed, step, Parsed, stops, symbols, put, follow, ending, parseFrom, parse, asList, letters, spellFrom, spelled, crate-computes}
-use Rattle.paper.specs.Settle.{Hand, named, moves, lays, waits, settleFrom, settle, inside}
+use Rattle.paper.specs.Crate.{À, Ɓ, Ć, Ź, spans, pointIn, State, free, held, Step, write, digit, pairs, listed, step, Parsed, stops, symbols, withSymbol, follow, finished, parseFrom, parse, asList, letters, spellFrom, spelled}
+use Rattle.paper.proofs.Computes.{crate-computes}
+use Rattle.paper.specs.Settle.{Position, switched, moved, added, leftOver, settleFrom, settle, inside}
 use Rattle.paper.specs.Jobs.{StartThenData}
-use Rattle.paper.proofs.Answering.{and-true}
+use Rattle.helpers.proofs.Answering.{and-true}
 use Rattle.paper.proofs.Settling.{settle-quiet}
-use Rattle.paper.proofs.Moves.{handIf, handOf, setOf, Sound, later, Fits, Form, form-cons, form-next, Listed, listed-letters, Move, stuck, holds, lists, closes, passes-by, move, Letter, double, single, letter}
+use Rattle.paper.proofs.Moves.{digit-bounds, positionIf, positionOf, setOf, Sound, later, Fits, Form, form-cons, form-next, Listed, listed-letters, Move, stuck, holds, lists, closes, passes-by, move, Letter, double, single, letter}
 
 -- ---- parsing, then spelling
 
 pub stops-not-symbols : {X : Type 0} {at : ℕ} {s : List ℕ} → stops at ≡ symbols s → X
 stops-not-symbols {at} {s} e = absurd (let z : _≡_ {A = ℕ} 0 1 = cc in omega arith)
 
-put-symbols : (m : ℕ) (p : Parsed) (s : List ℕ) → put m p ≡ symbols s → (t : List ℕ) × (p ≡ symbols t) × (s ≡ m ∷ t)
-unfolding put
+put-symbols : (m : ℕ) (p : Parsed) (s : List ℕ) → withSymbol m p ≡ symbols s → (t : List ℕ) × (p ≡ symbols t) × (s ≡ m ∷ t)
+unfolding withSymbol
 put-symbols m (stops at) s e = stops-not-symbols e
 put-symbols m (symbols t) s e = (t, refl, cc)
 
--- what it tells that the code points x, parsed from the state q, give the symbols s
+-- what follows where the code points x, parsed from the state q, give the symbols s
 pub record Settled (q : State) (x s : List ℕ) : Type 0 where
-  pub spells : settleFrom (handOf q) x ≡ spellFrom (setOf q) s
+  pub spells : settleFrom (positionOf q) x ≡ spellFrom (setOf q) s
   pub forms : Form (later (setOf q)) s
   pub low : Each (λ c. c < 0x182) x
-
-digit-bounds : (c : ℕ) → digit c ≡ true → (48 ≤ c) × (c ≤ 57)
-unfolding digit
-digit-bounds c e = let both = and-true (leb 48 c) (leb c 57) e in (leb-true 48 c (both .0), leb-true c 57 (both .1))
 
 pub next-pair : (m : ℕ) → m < 100 → next C m ≡ C
 unfolding next
 next-pair m h = rw (ne-eqb m 100 (omega arith), ne-eqb m 101 (omega arith))
 
--- a code point that makes a number be written: it is laid down where the number's letters stand, and it leads where the number leads
+-- a code point that makes a number be written: it is laid down where the number's letters stand,
+-- and it leads where the number leads
 record Wrote (q : State) (c m : ℕ) (r : State) : Type 0 where
-  laid : lays (handOf q) c ≡ letters (setOf q) m
-  moved : moves (handOf q) c ≡ handOf r
+  laid : added (positionOf q) c ≡ letters (setOf q) m
+  moved : moved (positionOf q) c ≡ positionOf r
   switched : setOf r ≡ next (setOf q) m
   fits : Fits (later (setOf q)) m
   low : c < 0x182
 
-alone : (b : Bool) (c : ℕ) → (b && digit c) ≡ false → (lays (handIf b) c ≡ c ∷ []) × (moves (handIf b) c ≡ named (handIf b) c)
-unfolding lays moves
+alone : (b : Bool) (c : ℕ) → (b && digit c) ≡ false → (added (positionIf b) c ≡ c ∷ []) × (moved (positionIf b) c ≡ switched (positionIf b) c)
+unfolding added moved
 alone true c e = (rw e, rw e)
 alone false c e = (refl, refl)
 
@@ -65,7 +63,7 @@ wrote-listed s c m l = let both = alone (pairs s) c (l .no-digit) in record {
 }
 
 wrote-pair : (d c : ℕ) → d < 10 → digit c ≡ true → Wrote (held d) c (10 * d + (c - 48)) (free C)
-unfolding lays moves named letters pairs digits
+unfolding added moved switched letters pairs digits
 wrote-pair d c h k =
     let bounds = digit-bounds c k in
     let tens : (10 * d + (c - 48)) / 10 ≡ d = omega arith in
@@ -79,17 +77,17 @@ wrote-pair d c h k =
     }
 
 wrote-Ź : (d : ℕ) → Wrote (held d) Ź 102 (held d)
-unfolding lays moves crate-computes
+unfolding added moved crate-computes
 wrote-Ź d = record { laid = refl; moved = refl; switched = refl; fits = omega arith; low = omega arith }
 
 settled-write : (q r : State) (c m at : ℕ) (cs s : List ℕ) → Wrote q c m r → ((t : List ℕ) → parseFrom r (suc at) cs ≡ symbols t → Settled r cs t)
-    → put m (parseFrom r (suc at) cs) ≡ symbols s → Settled q (c ∷ cs) s
+    → withSymbol m (parseFrom r (suc at) cs) ≡ symbols s → Settled q (c ∷ cs) s
 unfolding settleFrom spellFrom
 settled-write q r c m at cs s w ih e =
     let (t, p, z) = put-symbols m (parseFrom r (suc at) cs) s e in
     let rest = ih t p in
     rw z (record {
-      spells = ap₂ _++_ (w .laid) (ap (λ (h : Hand). settleFrom h cs) (w .moved) ∙ rest .spells ∙ ap (λ (a : Set). spellFrom a t) (w .switched));
+      spells = ap₂ _++_ (w .laid) (ap (λ (h : Position). settleFrom h cs) (w .moved) ∙ rest .spells ∙ ap (λ (a : Set). spellFrom a t) (w .switched));
       forms = form-cons (setOf q) m t (w .fits) (rw (w .switched) at (rest .forms));
       low = (w .low, rest .low);
     })
@@ -97,7 +95,7 @@ settled-write q r c m at cs s w ih e =
 settled-turn : {q : State} {c : ℕ} {st : Step} → Move q c st → (at : ℕ) (cs s : List ℕ)
     → ((r : State) → Sound r → (t : List ℕ) → parseFrom r (suc at) cs ≡ symbols t → Settled r cs t)
     → follow st at (λ r. parseFrom r (suc at) cs) ≡ symbols s → Settled q (c ∷ cs) s
-unfolding follow settleFrom lays moves pairs
+unfolding follow settleFrom added moved pairs
 settled-turn stuck at cs s ih e = stops-not-symbols e
 settled-turn (holds {c} k) at cs s ih e =
     let bounds = digit-bounds c k in
@@ -109,8 +107,8 @@ settled-turn (closes {d} {c} h k) at cs s ih e =
     settled-write (held d) (free C) c (10 * d + (c - 48)) at cs s (wrote-pair d c h k) (ih (free C) tt) e
 settled-turn (passes-by {d} h) at cs s ih e = settled-write (held d) (held d) Ź 102 at cs s (wrote-Ź d) (ih (held d) h) e
 
-ended : (q : State) (at : ℕ) (s : List ℕ) → ending q at ≡ symbols s → (Settled q [] []) × (s ≡ [])
-unfolding ending settleFrom waits spellFrom pairs
+ended : (q : State) (at : ℕ) (s : List ℕ) → (if finished q then symbols [] else stops at) ≡ symbols s → (Settled q [] []) × (s ≡ [])
+unfolding finished settleFrom leftOver spellFrom pairs
 ended (free before) at s e = stops-not-symbols e
 ended (free A) at s e = (record { spells = refl; forms = tt; low = tt }, cc)
 ended (free B) at s e = (record { spells = refl; forms = tt; low = tt }, cc)
@@ -122,7 +120,8 @@ unfolding parseFrom
 settled q k at [] s e = let both = ended q at s e in rw (both .1) (both .0)
 settled q k at (c ∷ cs) s e = settled-turn (move q k c) at cs s (λ r l t p. settled r l (suc at) cs t p) e
 
--- an input that parses settles to the spelling of its symbols, these are a START and then data, and its code points are all low
+-- an input that parses settles to the spelling of its symbols, these are a START and then data, and
+-- its code points are all low
 pub parse-settles : (x s : List ℕ) → parse x ≡ symbols s → settle x ≡ spelled s
 unfolding parse settle spelled pairs
 parse-settles x s e = settled (free before) tt 0 x s e .spells
@@ -147,19 +146,19 @@ digit-of k h = rw (le-leb 48 (48 + k) (omega arith), le-leb (48 + k) 57 (omega a
 
 pair-parses : (m : ℕ) → m < 100 → (at : ℕ) (ms rest : List ℕ) → parseFrom (free C) (suc (suc at)) rest ≡ symbols ms
     → parseFrom (free C) at (digits m ++ rest) ≡ symbols (m ∷ ms)
-unfolding parseFrom follow put step pairs digits
+unfolding parseFrom follow withSymbol step pairs digits
 pair-parses m h at ms rest ih =
     let value : 10 * (48 + m / 10 - 48) + (48 + m % 10 - 48) ≡ m = omega arith in
     rw (digit-of (m / 10) (omega arith), digit-of (m % 10) (omega arith), value, ih)
 
 spelled-turn : {s : Set} {m : ℕ} {l : List ℕ} → Letter s m l → (at : ℕ) (ms rest : List ℕ)
     → ((a : ℕ) → parseFrom (free (next s m)) a rest ≡ symbols ms) → parseFrom (free s) at (l ++ rest) ≡ symbols (m ∷ ms)
-unfolding parseFrom follow put
+unfolding parseFrom follow withSymbol
 spelled-turn {s} {m} (double e h) at ms rest ih = rw e (pair-parses m h at ms rest (rw (e, next-pair m h) at (ih (suc (suc at)))))
 spelled-turn {s} {m} (single c l) at ms rest ih = rw (step-listed s c m l, ih (suc at))
 
-nothing-parses : (s : Set) (at : ℕ) → Form (later s) [] → ending (free s) at ≡ symbols []
-unfolding ending
+nothing-parses : (s : Set) (at : ℕ) → Form (later s) [] → (if finished (free s) then symbols [] else stops at) ≡ symbols []
+unfolding finished
 nothing-parses before at f = absurd f
 nothing-parses A at f = refl
 nothing-parses B at f = refl

@@ -9,12 +9,13 @@ use native.Mathlib.Omega.{arith}
 use lib.Dec.{leb, eqb, T}
 use lib.ListN.{length, getD, take}
 use borrow.Author.Tests.{leb-true, eqb-true, eq-eqb}
-use Rattle.paper.specs.Answers.{if_then_else_, Each}
+use Rattle.helpers.specs.Answers.{if_then_else_, Each}
 use Rattle.paper.specs.Iso15417.{widths, drawn, pattern, stop, same, Look, is, unknown, foundIn, found, cells, count}
-use Rattle.paper.specs.Chars.{chars, entry, chars-computes}
-use Rattle.paper.specs.Rules.{runs, barCells, Pattern, rules-computes}
-use Rattle.paper.proofs.Answering.{true-not-false, and-true, truth}
-use Rattle.paper.proofs.Below.{below, at, and-left, and-right}
+use Rattle.paper.specs.Chars.{chars, entry}
+use Rattle.paper.proofs.Computes.{chars-computes, rules-computes}
+use Rattle.paper.specs.Rules.{runs, barCells, PatternRule}
+use Rattle.helpers.proofs.Answering.{true-not-false, and-true, truth}
+use Rattle.helpers.proofs.Below.{below, at, and-left, and-right}
 
 -- ---- equal lists
 
@@ -104,21 +105,22 @@ unfolding looks
 looks-is (is k) m t = ap is (as-equal k m t)
 looks-is unknown m t = absurd t
 
--- the tests of one entry: its pattern, how it is found, and the rule, in the order of the record Pattern
+-- the tests of one entry: its pattern, how it is found, and the rule, in the order of the record
+-- PatternRule
 right : ℕ → List ℕ → Bool
 right m p =
     same p (pattern m) && looks (found p) m && eqb (length p) 11 && every (λ c. leb c 1) p && eqb (getD p 0 0) 1 && eqb (getD p 10 1) 0
     && eqb (length (runs p)) 6 && every (λ w. leb 1 w && leb w 4) (runs p) && eqb (barCells p % 2) 0 && not (same p (take 11 stop))
 
--- what they tell
+-- what follows from them
 record Right (m : ℕ) (p : List ℕ) : Type 0 where
   is-pattern : p ≡ pattern m
   is-found : found p ≡ is m
-  is-ruled : Pattern p
+  is-ruled : PatternRule p
 
-told : (m : ℕ) (p : List ℕ) → T (right m p) → Right m p
+righted : (m : ℕ) (p : List ℕ) → T (right m p) → Right m p
 unfolding right
-told m p t = record {
+righted m p t = record {
   is-pattern = as-same p (pattern m) (search (and-left, and-right) depth 9);
   is-found = looks-is (found p) m (search (and-left, and-right) depth 9);
   is-ruled = record {
@@ -139,7 +141,7 @@ unfolding right looks every chars-computes rules-computes
 all-right = tt
 
 at-entry : (m : ℕ) → m < 106 → Right m (entry m)
-at-entry m h = told m (entry m) (at (λ k. right k (entry k)) 106 all-right m h)
+at-entry m h = righted m (entry m) (at (λ k. right k (entry k)) 106 all-right m h)
 
 -- ---- the promises of the table
 
@@ -151,7 +153,7 @@ pub table-widths : chars ≡ cells (count 0 106)
 unfolding chars-computes rules-computes
 table-widths = refl
 
-pub table-rule : (m : ℕ) → m < 106 → Pattern (entry m)
+pub table-rule : (m : ℕ) → m < 106 → PatternRule (entry m)
 table-rule m h = at-entry m h .is-ruled
 
 pub table-found : (m : ℕ) → m < 106 → found (entry m) ≡ is m
@@ -165,7 +167,7 @@ table-apart m k h l e = cc (table-found m h, table-found k l)
 
 -- ---- the same of the patterns
 
-rule-of-pattern : (m : ℕ) → m < 106 → Pattern (pattern m)
+rule-of-pattern : (m : ℕ) → m < 106 → PatternRule (pattern m)
 rule-of-pattern m h = rw (table-pattern m h) at (table-rule m h)
 
 pub length-pattern : (m : ℕ) → m < 106 → length (pattern m) ≡ 11

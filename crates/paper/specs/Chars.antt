@@ -1,9 +1,8 @@
--- The 1,166 cells of the crate's `CHARS`, one pattern a line, with its number behind it.
+-- The 1,166 cells of the crate's `CHARS`, one pattern a line, with its number after it.
 -- Document 01, "Patterns and check". Assumes nothing.
-use Prim.Native.Nat.{ℕ, _*_}
-use mathlib.Core.List.{List, [], _∷_}
-use lib.ListN.{take, drop}
+use Rattle.helpers.specs.Prelude.{ℕ, _*_, List, [], _∷_, take, drop}
 
+-- "1,166 cells in a table"
 unfoldable pub chars : List ℕ
 chars =
     1 ∷ 1 ∷ 0 ∷ 1 ∷ 1 ∷ 0 ∷ 0 ∷ 1 ∷ 1 ∷ 0 ∷ 0 ∷ -- 0
@@ -117,8 +116,3 @@ chars =
 -- the eleven cells of entry m
 unfoldable pub entry : ℕ → List ℕ
 entry m = take 11 (drop (11 * m) chars)
-
--- what a proof by computation names on its `unfolding` line: it opens every definition above
-unfoldable pub chars-computes : Unit {0}
-unfolding chars entry
-chars-computes = tt

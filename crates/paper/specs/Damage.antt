@@ -1,13 +1,9 @@
--- What befalls a row when one of its symbols is drawn over, and what read answers then.
--- Demand 3: "Replace one symbol (start, data or check) of an accepted row by a different one of the 106". Assumes nothing.
-use Prim.Native.Nat.{ℕ, _+_, _*_, _%_}
-use mathlib.Core.Bool.{Bool, _&&_}
-use mathlib.Core.List.{List, [], _∷_, _++_}
-use lib.Dec.{leb, ltb, eqb}
-use lib.ListN.{length, take, drop, set}
-use Rattle.paper.specs.Answers.{if_then_else_, Answer, refuse, accept}
+-- What read answers to a row in which one symbol is drawn over.
+-- Demand 3, "Replace one symbol (start, data or check) of an accepted row …". Assumes nothing.
+use Rattle.helpers.specs.Prelude.{ℕ, _+_, _*_, _%_, Bool, _&&_, List, [], _∷_, _++_, leb, ltb, eqb, length, take, drop, set}
+use Rattle.helpers.specs.Answers.{if_then_else_, Answer, refuse, accept}
 use Rattle.paper.specs.Iso15417.{pattern, check}
-use Rattle.paper.specs.Jobs.{jobs-computes, fitsAt}
+use Rattle.paper.specs.Jobs.{fitsAt}
 
 -- the numbers of a row's blocks: its symbols and the check
 unfoldable pub blocksOf : List ℕ → List ℕ
@@ -17,16 +13,12 @@ blocksOf s = s ++ (check s ∷ [])
 unfoldable pub redrawn : ℕ → ℕ → List ℕ → List ℕ
 redrawn i m cs = take (11 * i) cs ++ (pattern m ++ drop (11 * (i + 1)) cs)
 
--- "a data symbol at place 103 or 206, the start being place 0": the data places whose weight is a multiple of 103
+-- "a data symbol at place 103 or 206": the data places whose weight is a multiple of 103
 unfoldable pub blind : List ℕ → ℕ → Bool
 blind s i = leb 1 i && ltb i (length s) && eqb (i % 103) 0
 
--- What read answers where block i of the row of s is redrawn as another number m: 13 if m may not stand there; the changed list if the check is
--- blind there; and else 14 with the check that would be right. A check redrawn leaves the list as it was.
+-- What read answers, the room not yet asked, where block i of the row of s is redrawn as another
+-- number m: 13 if m may not stand there; the changed list if the check is blind there; and else 14
+-- with the check that would be right. A check redrawn leaves the list as it was.
 unfoldable pub verdict : List ℕ → ℕ → ℕ → Answer
 verdict s i m = if fitsAt i m then (if blind s i then accept (length s) (set s i m) else refuse 14 (check (set s i m))) else refuse 13 i
-
--- what a proof by computation names on its `unfolding` line: it opens every definition above
-unfoldable pub damage-computes : Unit {0}
-unfolding blocksOf redrawn blind verdict jobs-computes
-damage-computes = tt

@@ -1,17 +1,19 @@
--- What document 01 takes from ISO/IEC 15417: bar patterns, check, the meaning of each number in each code set, the scanner reading.
--- Document 01, "Patterns and check", "Spelling and scanner reading". Assumes nothing.
-use Prim.Native.Nat.{ℕ, zero, suc, _+_, _-_, _*_, _/_, _%_}
-use Prim.Native.String.{String}
-use mathlib.Core.Bool.{Bool, true, false, _&&_}
-use mathlib.Core.List.{List, [], _∷_, _++_, map}
-use lib.Dec.{ltb, eqb}
-use lib.ListN.{getD, replicate}
-use Rattle.paper.specs.Answers.{answers-computes, if_then_else_}
-use Rattle.paper.specs.Points.{points}
+-- What document 01 takes from ISO/IEC 15417: bar patterns, check, the meaning of each number in
+-- each code set, the scanner reading.
+-- Document 01, "What is built", "Patterns and check", "Tokens and character sets", "Spelling and
+-- scanner reading". Assumes nothing.
+use Rattle.helpers.specs.Prelude.{ℕ, zero, suc, _+_, _-_, _*_, _/_, _%_, String, Bool, true, false, _&&_, List, [], _∷_, _++_, map, ltb, eqb, getD, replicate}
+use Rattle.helpers.specs.Answers.{if_then_else_}
+use Prim.Native.Char.{code}
+use Prim.Native.String as S
+
+-- the code points of a text, in order
+unfoldable pub points : String → List ℕ
+points S.[] = []
+points (S._∷_ c s) = code c ∷ points s
 
 -- ---- patterns
-
--- The element widths of the symbols 0 to 105, bar, space, bar, space, bar, space, as the standard prints them.
+-- The widths of three bars and spaces in turn, of the symbols 0 to 105, as the standard prints them
 unfoldable pub widths : List ℕ
 widths =
     212222 ∷ 222122 ∷ 222221 ∷ 121223 ∷ 121322 ∷ 131222 ∷ 122213 ∷ 122312 ∷ 132212 ∷ 221213 ∷
@@ -26,25 +28,27 @@ widths =
     214121 ∷ 412121 ∷ 111143 ∷ 111341 ∷ 131141 ∷ 114113 ∷ 114311 ∷ 411113 ∷ 411311 ∷ 113141 ∷
     114131 ∷ 311141 ∷ 411131 ∷ 211412 ∷ 211214 ∷ 211232 ∷ []
 
--- the cells of one element, "1 for bar and 0 for space": as many as the last digit of w says
-unfoldable pub bar : ℕ → List ℕ
-bar w = replicate (w % 10) 1
+-- "1 for bar": the cells of a bar whose width is the last digit of w
+unfoldable pub barOf : ℕ → List ℕ
+barOf w = replicate (w % 10) 1
 
-unfoldable pub space : ℕ → List ℕ
-space w = replicate (w % 10) 0
+-- "0 for space": the cells of a space whose width is the last digit of w
+unfoldable pub spaceOf : ℕ → List ℕ
+spaceOf w = replicate (w % 10) 0
 
 -- "three bars and three spaces": 212222 is 11011001100
 unfoldable pub drawn : ℕ → List ℕ
-drawn w = bar (w / 100000) ++ space (w / 10000) ++ bar (w / 1000) ++ space (w / 100) ++ bar (w / 10) ++ space w
+drawn w = barOf (w / 100000) ++ spaceOf (w / 10000) ++ barOf (w / 1000) ++ spaceOf (w / 100) ++ barOf (w / 10) ++ spaceOf w
 
--- the eleven cells of the number m
+-- the eleven cells of the number m; none above 105
 unfoldable pub pattern : ℕ → List ℕ
 pattern m = drawn (getD widths m 0)
 
 -- "The stop is 1100011101011", in the standard 2331112
 unfoldable pub stop : List ℕ
-stop = drawn 233111 ++ bar 2
+stop = drawn 233111 ++ barOf 2
 
+-- are two lists the same, element by element?
 unfoldable pub same : List ℕ → List ℕ → Bool
 same [] [] = true
 same [] (y ∷ ys) = false
@@ -56,16 +60,16 @@ pub data Look : Type 0 where
   is : ℕ → Look
   unknown : Look
 
--- looked for among these widths, the first of them that of m
+-- a block looked for among these widths, the first of them that of the number m
 unfoldable pub foundIn : ℕ → List ℕ → List ℕ → Look
-foundIn m [] block = unknown
-foundIn m (w ∷ ws) block = if same (drawn w) block then is m else foundIn (suc m) ws block
+foundIn m [] cs = unknown
+foundIn m (w ∷ ws) cs = if same (drawn w) cs then is m else foundIn (suc m) ws cs
 
+-- the same among the widths of all 106
 unfoldable pub found : List ℕ → Look
-found block = foundIn 0 widths block
+found cs = foundIn 0 widths cs
 
 -- ---- check and row
-
 -- "the sum of number times weight", the first number weighing w and each next one more
 unfoldable pub weighed : ℕ → List ℕ → ℕ
 weighed w [] = 0
@@ -74,8 +78,9 @@ weighed w (x ∷ xs) = w * x + weighed (suc w) xs
 -- "modulo 103. The START weighs 1, and so does place 1; place i weighs i."
 unfoldable pub check : List ℕ → ℕ
 check [] = 0
-check (start ∷ numbers) = (start + weighed 1 numbers) % 103
+check (start ∷ ms) = (start + weighed 1 ms) % 103
 
+-- the patterns of some numbers, one after the other
 unfoldable pub cells : List ℕ → List ℕ
 cells [] = []
 cells (x ∷ xs) = pattern x ++ cells xs
@@ -85,12 +90,12 @@ unfoldable pub row : List ℕ → List ℕ
 row s = cells (s ++ (check s ∷ [])) ++ stop
 
 -- ---- code sets
-
 -- the three code sets, and before the START none
 pub data Set : Type 0 where
   before A B C : Set
 
--- "Later they switch": the set after a number. The STARTs are 103, 104, 105; Code C is 99, Code B 100, Code A 101, and 99 in set C is a pair.
+-- the set after a number: the STARTs are 103, 104, 105; Code C is 99, Code B 100, Code A 101, and 99
+-- in set C is a pair
 unfoldable pub next : Set → ℕ → Set
 next before m = if eqb m 103 then A else if eqb m 104 then B else if eqb m 105 then C else before
 next A m = if eqb m 99 then C else if eqb m 100 then B else A
@@ -101,20 +106,20 @@ next C m = if eqb m 100 then B else if eqb m 101 then A else C
 unfoldable pub digits : ℕ → List ℕ
 digits m = (48 + m / 10) ∷ (48 + m % 10) ∷ []
 
--- "Scan gives 7-bit bytes": those of a number; "START, Shift and the function symbols give nothing", nor do switches
+-- "Scan gives 7-bit bytes. … START, Shift and the function symbols give nothing", nor do switches
 unfoldable pub sent : Set → ℕ → List ℕ
 sent before m = []
 sent A m = if ltb m 64 then (m + 32) ∷ [] else if ltb m 96 then (m - 64) ∷ [] else []
 sent B m = if ltb m 96 then (m + 32) ∷ [] else []
 sent C m = if ltb m 100 then digits m else []
 
--- "Switches move the set"
+-- "Switches move the set": the bytes of the numbers, one after the other
 unfoldable pub scanned : Set → List ℕ → List ℕ
 scanned s [] = []
 scanned s (m ∷ ms) = sent s m ++ scanned (next s m) ms
 
 -- ---- the standard's own table: what each number means in each set
-
+-- what a number means: an ASCII character, a pair of digits, FNC1 to FNC4, Shift, a switch, a START
 pub data Meaning : Type 0 where
   ascii : ℕ → Meaning
   pair : ℕ → Meaning
@@ -128,10 +133,11 @@ unfoldable pub count : ℕ → ℕ → List ℕ
 count m zero = []
 count m (suc n) = m ∷ count (suc m) n
 
+-- a run of the table: the characters of a text
 unfoldable pub printed : String → List Meaning
 printed text = map ascii (points text)
 
--- The columns "Code set A", "Code set B", "Code set C" of the table of symbol characters, from number 0 on; before the START, from 103 on.
+-- The columns of its table of symbol characters, from number 0 on; before the START, from 103 on.
 unfoldable pub column : Set → List Meaning
 column before = START A ∷ START B ∷ START C ∷ []
 column A =
@@ -144,8 +150,3 @@ column B =
     printed "`abcdefghijklmnopqrstuvwxyz{|}~\u{7f}" ++
     (FNC 3 ∷ FNC 2 ∷ SHIFT ∷ CODE C ∷ FNC 4 ∷ CODE A ∷ FNC 1 ∷ [])
 column C = map pair (count 0 100) ++ (CODE B ∷ CODE A ∷ FNC 1 ∷ [])
-
--- what a proof by computation names on its `unfolding` line: it opens every definition above
-unfoldable pub iso15417-computes : Unit {0}
-unfolding widths bar space drawn pattern stop same foundIn found weighed check cells row next digits sent scanned count printed column points answers-computes
-iso15417-computes = tt

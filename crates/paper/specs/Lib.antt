@@ -1,5 +1,3 @@
-pub mod Answers
-pub mod Points
 pub mod Iso15417
 pub mod Crate
 pub mod Settle
@@ -9,4 +7,3 @@ pub mod Jobs
 pub mod Labels
 pub mod Damage
 pub mod Promises
-pub mod Examples

@@ -1,36 +1,32 @@
 -- The rule of the table of patterns, and the crate's numbers held against the standard's table.
 -- Document 01, "Patterns and check" and "Tokens and character sets". Assumes nothing.
-use Prim.Native.Nat.{ℕ, suc, _+_, _-_, _%_, _≤_}
-use mathlib.Core.Path.{_≡_}
-use mathlib.Core.Logic.{_≢_}
-use mathlib.Core.Bool.{Bool, true, false}
-use mathlib.Core.List.{List, [], _∷_, _++_}
-use lib.Dec.{eqb}
-use lib.ListN.{length, getD, take}
-use Rattle.paper.specs.Answers.{if_then_else_, Each}
+use Rattle.helpers.specs.Prelude.{ℕ, suc, _+_, _-_, _%_, _≤_, _≡_, _≢_, Bool, true, false, List, [], _∷_, _++_, eqb, length, getD, take}
+use Rattle.helpers.specs.Answers.{if_then_else_, Each}
 use Rattle.paper.specs.Iso15417.{Set, before, A, B, C, Meaning, ascii, pair, FNC, SHIFT, CODE, START, stop, same, next, digits, sent, column}
-use Rattle.paper.specs.Crate.{crate-computes, À, Ɓ, Ć, Ź, ź, Ż, ż, Ž, letters}
+use Rattle.paper.specs.Crate.{À, Ɓ, Ć, Ź, ź, Ż, ż, Ž, letters}
 
 -- ---- the table
-
--- the lengths of a block's bars and spaces, in order
+-- one cell more: of the first run where it is of the same colour, and else a run of its own
 unfoldable pub longer : Bool → List ℕ → List ℕ
 longer true [] = []
 longer true (k ∷ ks) = suc k ∷ ks
 longer false ks = 1 ∷ ks
 
+-- the lengths of a block's bars and spaces, in order
 unfoldable pub runs : List ℕ → List ℕ
 runs [] = []
 runs (c ∷ []) = 1 ∷ []
 runs (c ∷ d ∷ cs) = longer (eqb c d) (runs (d ∷ cs))
 
+-- how many cells are bar
 unfoldable pub barCells : List ℕ → ℕ
 barCells [] = 0
 barCells (c ∷ cs) = c + barCells cs
 
--- "Every pattern begins with 1 and ends with 0, has three bars and three spaces of 1 to 4 cells, an even number of bar cells, and equals no
--- other pattern nor the first eleven cells of the stop."
-pub record Pattern (p : List ℕ) : Type 0 where
+-- "Every pattern begins with 1 and ends with 0, has three bars and three spaces of 1 to 4 cells, an
+-- even number of bar cells, and equals no other pattern nor the first eleven cells of the stop."
+-- (That no two are equal is `table-apart` of Promises.)
+pub record PatternRule (p : List ℕ) : Type 0 where
   pub eleven : length p ≡ 11
   pub two-colours : Each (λ c. c ≤ 1) p
   pub begins : getD p 0 0 ≡ 1
@@ -41,7 +37,6 @@ pub record Pattern (p : List ℕ) : Type 0 where
   pub no-stop : p ≢ take 11 stop
 
 -- ---- the numbers of the code sets
-
 -- the code point that names a set
 unfoldable pub nameOf : Set → List ℕ
 nameOf before = []
@@ -76,30 +71,29 @@ leads s SHIFT = s
 leads s (CODE t) = t
 leads s (START t) = t
 
--- three questions to a number in a set: is it written, sent and followed as the standard means it?
+-- is the number m of a set written as the standard means it?
 unfoldable pub writes : Set → ℕ → Meaning → Bool
 writes s m x = same (letters s m) (written x)
 
+-- is the number m of a set sent as the standard means it?
 unfoldable pub sends : Set → ℕ → Meaning → Bool
 sends s m x = same (sent s m) (message x)
 
+-- does it lead to the set that the standard means?
 unfoldable pub switches : Set → ℕ → Meaning → Bool
 switches s m x = same (nameOf (next s m)) (nameOf (leads s x))
 
--- the numbers of a set, from m on, for which the answer is no
+-- a number of a set
 pub data Spot : Type 0 where
-  at : Set → ℕ → Spot
+  spot : Set → ℕ → Spot
 
-unfoldable pub partings : (Set → ℕ → Meaning → Bool) → Set → ℕ → List Meaning → List Spot
-partings agrees s m [] = []
-partings agrees s m (x ∷ xs) = (if agrees s m x then [] else (at s m ∷ [])) ++ partings agrees s (suc m) xs
+-- the numbers of a column, from m on, for which the answer is no
+unfoldable pub differencesIn : (Set → ℕ → Meaning → Bool) → Set → ℕ → List Meaning → List Spot
+differencesIn agrees s m [] = []
+differencesIn agrees s m (x ∷ xs) = (if agrees s m x then [] else (spot s m ∷ [])) ++ differencesIn agrees s (suc m) xs
 
--- in the whole table: the STARTs, and 103 numbers in each of the three sets
-unfoldable pub partsAt : (Set → ℕ → Meaning → Bool) → List Spot
-partsAt agrees =
-    partings agrees before 103 (column before) ++ partings agrees A 0 (column A) ++ partings agrees B 0 (column B) ++ partings agrees C 0 (column C)
-
--- what a proof by computation names on its `unfolding` line: it opens every definition above
-unfoldable pub rules-computes : Unit {0}
-unfolding longer runs barCells nameOf written message leads writes sends switches partings partsAt crate-computes
-rules-computes = tt
+-- the same in the whole table: the STARTs, and 103 numbers in each of the three sets
+unfoldable pub differences : (Set → ℕ → Meaning → Bool) → List Spot
+differences agrees =
+    differencesIn agrees before 103 (column before) ++ differencesIn agrees A 0 (column A) ++ differencesIn agrees B 0 (column B) ++
+    differencesIn agrees C 0 (column C)

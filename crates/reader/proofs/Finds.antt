@@ -1,4 +1,5 @@
--- The search over patterns and cells: laws of the loop over the cells of one pattern and of the loop over the patterns.
+-- The search over patterns and cells: laws of the loop over the cells of one pattern and of the
+-- loop over the patterns.
 -- Assumes nothing.
 use Prim.Native.Nat.{ℕ, _+_, _*_, _<_, _≤_}
 use mathlib.Core.Path.{_≡_, refl, sym, _∙_}
@@ -24,7 +25,8 @@ module _ (l : List ℕ) (a : ℕ) where
   part-at : (j : ℕ) → j < 11 → getD (part l a) j 0 ≡ getD l (a + j) 0
   part-at j h = getD-take 11 (drop a l) j 0 h ∙ getD-drop a l j 0
 
--- A loop that compares eleven cells of t from a on with those of r from b on, and has come to cell j.
+-- A loop that compares eleven cells of t from a on with those of r from b on, and has come to cell
+-- j.
 pub record Matching (t r : List ℕ) (a b j : ℕ) : Type 0 where
   pub within : j ≤ 11
   pub rest : same (part t a) (part r b) ≡ same (drop j (part t a)) (drop j (part r b))

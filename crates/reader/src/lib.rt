@@ -3,13 +3,14 @@ ghost use Prim.Native.Nat.{_+_, _*_, _<_, _≤_};
 ghost use mathlib.Core.Path.{_≡_};
 ghost use mathlib.Core.List.{[]};
 ghost use lib.ListN.{length, take, drop};
-ghost use Rattle.paper.specs.Answers.{accept, _then_, Gave};
+ghost use Rattle.helpers.specs.Answers.{accept, _then_, Gave};
 ghost use Rattle.paper.specs.Chars.{chars};
 ghost use Rattle.paper.specs.Iso15417.{found};
 ghost use Rattle.paper.specs.Jobs as Paper;
-ghost use Rattle.paper.specs.Jobs.{fitsAt, blocksFrom, stopsRight};
-ghost use Rattle.helpers.specs.Numbers.{numberOf, secondOf, tells};
-ghost use Rattle.reader.specs.Parts.{looked, walked, stopAsked, checkAsked, Judged};
+ghost use Rattle.paper.specs.Jobs.{fitsAt, blocksFrom, wanted};
+ghost use Rattle.helpers.specs.Numbers.{numberOf, secondOf};
+ghost use Rattle.helpers.specs.Contracts.{answers};
+ghost use Rattle.reader.specs.Parts.{lookOf, walkOf, stopAsked, checkAsked, Judged};
 use helpers::Answer;
 use helpers::Refusal;
 
@@ -22,7 +23,7 @@ enum Found {
 // Looks up the eleven cells from place `at` on in the table, pattern by pattern and cell by cell.
 fn find(row: &[u8], at: usize, table: &[u8]) -> Found
     requires { ⌜ (at + 11 ≤ length (now row)) × (now table ≡ chars) ⌝ }
-    ensures { λ r. ⌜ looked r ≡ found (take 11 (drop at (now (row .entry)))) ⌝ }
+    ensures { λ r. ⌜ lookOf r ≡ found (take 11 (drop at (now (row .entry)))) ⌝ }
 {
     let mut s: usize = 0;
     'search: loop {
@@ -47,19 +48,20 @@ fn find(row: &[u8], at: usize, table: &[u8]) -> Found
 fn fits(b: usize, m: u8) -> bool
     ensures { λ r. ⌜ r ≡ fitsAt b m ⌝ }
 {
-    if 0 < b {
-        return m <= 102;
+    match b {
+        0 => match m {
+            103..=105 => true,
+            _ => false,
+        },
+        _ => m <= 102,
     }
-    if m < 103 {
-        return false;
-    }
-    m <= 105
 }
 
-// Looks up the first `count` blocks, each once, and stores their numbers; refuses 12 or 13 at the first wrong one.
+// Looks up the first `count` blocks, each once, and stores their numbers; refuses 12 or 13 at the
+// first wrong one.
 fn blocks(row: &[u8], count: usize, list: &mut [u8]) -> Answer
     requires { ⌜ (11 * count ≤ length (now row)) × (count ≤ length (now list)) ⌝ }
-    ensures { λ r. ⌜ walked count r (now (list .exit)) ≡ blocksFrom count 0 (now (row .entry)) ⌝ }
+    ensures { λ r. ⌜ walkOf count r (now (list .exit)) ≡ blocksFrom count 0 (now (row .entry)) ⌝ }
 {
     let table = code128::chars::table();
     let mut b: usize = 0;
@@ -76,10 +78,11 @@ fn blocks(row: &[u8], count: usize, list: &mut [u8]) -> Answer
     Answer::Done(count)
 }
 
-// Compares the row from place `at` on with `cells`, and answers the place behind them; refuses 15 at the first wrong cell.
-fn compare(row: &[u8], at: usize, cells: &[u8]) -> Answer
+// Holds the row from place `at` on against a part of the stop, and answers the place after it;
+// refuses 15 at the first wrong cell.
+fn stop_part(row: &[u8], at: usize, cells: &[u8]) -> Answer
     requires { ⌜ at + length (now cells) ≤ length (now row) ⌝ }
-    ensures { λ r. ⌜ tells r ≡ (stopsRight at (now (cells .entry)) (drop at (now (row .entry))) then accept (at + length (now (cells .entry))) []) ⌝ }
+    ensures { λ r. ⌜ answers r ≡ (wanted 15 at (now (cells .entry)) (drop at (now (row .entry))) then accept (at + length (now (cells .entry))) []) ⌝ }
 {
     let mut j: usize = 0;
     while j < cells.len() {
@@ -91,22 +94,24 @@ fn compare(row: &[u8], at: usize, cells: &[u8]) -> Answer
     Answer::Done(at + j)
 }
 
-// Compares the last 13 cells with the stop, the cells of `STOP` and of `TERM`: the row's length says where it stands.
+// Holds the last 13 cells against the stop, the cells of `STOP` and of `TERM`: the row's length
+// says where it stands.
 fn stops(row: &[u8]) -> Answer
     requires { ⌜ 13 ≤ length (now row) ⌝ }
-    ensures { λ r. ⌜ tells r ≡ (stopAsked (now (row .entry)) then accept (length (now (row .entry))) []) ⌝ }
+    ensures { λ r. ⌜ answers r ≡ (stopAsked (now (row .entry)) then accept (length (now (row .entry))) []) ⌝ }
 {
-    let first = compare(row, row.len() - 13, &code128::STOP);
-    let Answer::Done(next) = first else {
-        return first;
+    let so_far = stop_part(row, row.len() - 13, &code128::STOP);
+    let Answer::Done(next) = so_far else {
+        return so_far;
     };
-    compare(row, next, &code128::TERM)
+    stop_part(row, next, &code128::TERM)
 }
 
-// Holds the number behind the first `n` of the list against their check; refuses 14 with the right one.
+// Holds the number after the first `n` of the list against their check; refuses 14 with the right
+// one.
 fn checks(list: &[u8], n: usize) -> Answer
     requires { ⌜ (n < length (now list)) × (n ≤ 255) ⌝ }
-    ensures { λ r. ⌜ tells r ≡ (checkAsked (now (list .entry)) n then accept n []) ⌝ }
+    ensures { λ r. ⌜ answers r ≡ (checkAsked (now (list .entry)) n then accept n []) ⌝ }
 {
     let drawn = list[n];
     let right = code128::checksum_value(&list[0..n]);
@@ -116,35 +121,35 @@ fn checks(list: &[u8], n: usize) -> Answer
     Answer::Done(n)
 }
 
-// All tests of read but that of the room, told in their order: 10, 11, 12 and 13, 15, 14. The symbols go to the front of `list`.
+// All tests of read but that of the room, in their order: 10, 11, 12 and 13, 15, 14. The symbols go
+// to the front of `list`.
 fn judge(row: &[u8], list: &mut [u8]) -> Answer
     requires { ⌜ 256 ≤ length (now list) ⌝ }
     ensures { λ r. ⌜ Judged (now (row .entry)) r (now (list .exit)) ⌝ }
 {
-    let shape = helpers::shape(row);
-    let Answer::Done(n) = shape else {
-        return shape;
+    let so_far = shapes::shape(row);
+    let Answer::Done(n) = so_far else {
+        return so_far;
     };
-    let walk = blocks(row, n + 1, list);
-    let Answer::Done(_) = walk else {
-        return walk;
+    let so_far = blocks(row, n + 1, list);
+    let Answer::Done(_) = so_far else {
+        return so_far;
     };
-    let end = stops(row);
-    let check = checks(list, n);
-    let Answer::Done(_) = end else {
-        return end;
+    let so_far = stops(row);
+    let Answer::Done(_) = so_far else {
+        return so_far;
     };
-    check
+    checks(list, n)
 }
 
-// Read: the symbols of a row go to the front of `out`, once all tests have passed.
+// Read: a row to its symbol list. The symbols go to the front of `out` once all tests have passed.
 pub fn read(row: &[u8], out: &mut [u8]) -> Answer
     ensures { λ r. ⌜ Gave (Paper.read (length (now (out .entry))) (now (row .entry))) (numberOf r) (secondOf r) (now (out .entry)) (now (out .exit)) ⌝ }
 {
     let mut list = [0u8; 256];
-    let answer = judge(row, &mut list);
-    let Answer::Done(n) = answer else {
-        return answer;
+    let so_far = judge(row, &mut list);
+    let Answer::Done(n) = so_far else {
+        return so_far;
     };
     if out.len() < n {
         return Answer::Refused(Refusal::Room, n);

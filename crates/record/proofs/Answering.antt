@@ -1,104 +1,82 @@
--- What pack and unpack answer once the tests that write nothing are done.
+-- What pack and unpack answer after the tests that write nothing.
 -- Assumes nothing.
 use Prim.Native.Nat.{ℕ, _+_, _-_, _*_, _/_, _<_, _≤_}
-use mathlib.Core.Path.{_≡_, sym, ap, _∙_}
+use mathlib.Core.Path.{_≡_, refl, sym, ap, _∙_}
 use mathlib.Core.List.{List, [], _∷_}
 use native.Mathlib.Omega.{arith}
-use lib.ListN.{length, take, drop, length-take, length-drop}
-use lib.Seq.{take-all}
-use borrow.Author.Tests.{lt-leb}
-use Rattle.paper.specs.Answers.{Answer, refuse, accept, into}
-use Rattle.paper.specs.Jobs.{rowLength, whole, bytes, bytesFor, head, recordOf, pack, unbytes, opened, unpacked, unpack}
-use Rattle.paper.proofs.Answering.{refuse-not-accept, into-refuse, into-room}
-use Rattle.paper.proofs.Bytes.{length-unbytes}
-use Rattle.paper.proofs.Records.{length-record, Unpacked, unpack-tells}
-use Rattle.helpers.specs.Vetted.{shaped}
-use Rattle.helpers.proofs.Gives.{ofRow, row-refused, row-passed, row-proper}
-use Rattle.record.specs.Tested.{bare, tested}
+use lib.ListN.{length, take, drop, length-drop}
+use lib.Seq.{length-take-le, take-all}
+use borrow.Author.Tests.{leb-true, eqb-true}
+use Rattle.helpers.specs.Answers.{Answer, refuse, accept, Test, refuses, passes, _then_, whole, into}
+use Rattle.helpers.proofs.Answering.{refuse-not-accept, accept-number, then-accept, ask-passes, into-refuse, into-room, into-short}
+use Rattle.paper.specs.Jobs.{rowLength, bytes, bytesFor, head, recordOf, pack, unbytes, countOf, storedCells, unpack}
+use Rattle.paper.proofs.Bytes.{length-bytes, length-unbytes}
+use Rattle.shapes.specs.Vetted.{shaped}
+use Rattle.shapes.proofs.Shaping.{row-passed}
+use Rattle.record.specs.Tested.{tested}
+use Rattle.record.proofs.Tests.{Counted, counted}
 
--- an answer that does not fit
-into-short : (room n : ℕ) (out : List ℕ) → room < length out → into room (accept n out) ≡ refuse 5 (length out)
-unfolding into
-into-short room n out h = rw (lt-leb (length out) room h)
+-- ---- pack, after `shape`
 
--- ---- pack, behind `shape`
+module _ (cs : List ℕ) (room n : ℕ) (e : shaped cs ≡ accept n []) where
+  abbrev size : ℕ
+  size = (length cs + 7) / 8
 
-module _ (cs : List ℕ) (room : ℕ) where
-  pub pack-refused : (k m : ℕ) → shaped cs ≡ refuse k m → pack room cs ≡ refuse k m
-  unfolding pack ofRow
-  pack-refused k m e = row-refused cs room (whole (recordOf cs)) k m e
+  abbrev packed : List ℕ
+  packed = 1 ∷ n ∷ bytes size cs
 
-  pack-on : (n : ℕ) → shaped cs ≡ accept n [] → pack room cs ≡ into room (accept (length (recordOf cs)) (recordOf cs))
-  unfolding pack ofRow whole
-  pack-on n e = row-passed cs room (whole (recordOf cs)) n e
+  pack-on : pack room cs ≡ into room (accept (length packed) packed)
+  unfolding pack whole recordOf head bytesFor
+  pack-on = row-passed cs room _ n e
 
-  pub pack-room : (n : ℕ) → shaped cs ≡ accept n [] → room < 2 + (length cs + 7) / 8 → pack room cs ≡ refuse 5 (2 + (length cs + 7) / 8)
-  pack-room n e h = pack-on n e ∙ into-short room (length (recordOf cs)) (recordOf cs) (omega (arith, length-record cs)) ∙ ap (refuse 5) (length-record cs)
+  pub pack-room : room < 2 + size → pack room cs ≡ refuse 5 (2 + size)
+  pack-room h = pack-on ∙ into-short room _ packed (2 + size) (omega (arith, length-bytes size cs)) (omega (arith, length-bytes size cs))
 
-  -- the record by its parts
-  parts : (n : ℕ) → shaped cs ≡ accept n [] → recordOf cs ≡ 1 ∷ n ∷ bytes ((length cs + 7) / 8) cs
-  unfolding recordOf head bytesFor
-  parts n e = rw (row-proper cs n e .counted)
+  pub pack-done : 2 + size ≤ room → pack room cs ≡ accept (2 + size) packed
+  pack-done h = pack-on ∙ into-room room _ packed (omega (arith, length-bytes size cs)) ∙ ap (λ (k : ℕ). accept k packed) (omega (arith, length-bytes size cs))
 
-  pub pack-done : (n : ℕ) → shaped cs ≡ accept n [] → 2 + (length cs + 7) / 8 ≤ room
-      → pack room cs ≡ accept (2 + (length cs + 7) / 8) (1 ∷ n ∷ bytes ((length cs + 7) / 8) cs)
-  pack-done n e h = pack-on n e ∙ into-room room (length (recordOf cs)) (recordOf cs) (omega (arith, length-record cs)) ∙ rw (length-record cs, parts n e)
+-- ---- unpack, after `test`
 
--- ---- unpack, behind `test`
+-- the same tests before two answers: where they make x of the first, they make y of the second
+module _ (x y : Answer) (refusal : (k m : ℕ) → refuse k m ≡ x → refuse k m ≡ y) where
+  one-test : (t : Test) (a b : Answer) → (a ≡ x → b ≡ y) → (t then a) ≡ x → (t then b) ≡ y
+  unfolding _then_
+  one-test (refuses k m) a b f e = refusal k m e
+  one-test passes a b f e = f e
 
-bare-refuse : (a : Answer) (k m : ℕ) → bare a ≡ refuse k m → a ≡ refuse k m
-unfolding bare
-bare-refuse (refuse j l) k m e = e
-bare-refuse (accept n out) k m e = refuse-not-accept (sym e)
+  four-tests : (t u v w : Test) (a b : Answer) → (a ≡ x → b ≡ y) → (t then u then v then w then a) ≡ x → (t then u then v then w then b) ≡ y
+  four-tests t u v w a b f = one-test t _ _ (one-test u _ _ (one-test v _ _ (one-test w a b f)))
 
-bare-accept : (a : Answer) (n : ℕ) → bare a ≡ accept n [] → (out : List ℕ) × (a ≡ accept n out)
-unfolding bare
-bare-accept (refuse k m) n e = refuse-not-accept e
-bare-accept (accept j out) n e = (out, cc)
-
--- the bytes of a record behind its head, as the part from 2 on
+-- the bytes of a record after its head, as the part from 2 on
 abbrev pub bodyOf : List ℕ → List ℕ
 bodyOf rec = take (length rec - 2) (drop 2 rec)
 
--- a record that passes the tests, with the number of its cells
+-- A record that passes the tests, with the number of its cells.
 pub record Passed (rec : List ℕ) (n : ℕ) : Type 0 where
   pub headed : 2 ≤ length rec
   pub enough : n ≤ 8 * length (bodyOf rec)
   pub long : length (take n (unbytes (bodyOf rec))) ≡ n
-  pub answer : unpacked (length rec) (opened rec) ≡ accept n (take n (unbytes (bodyOf rec)))
+  pub answer : (room : ℕ) → unpack room rec ≡ into room (accept n (take n (unbytes (bodyOf rec))))
 
-passed-out : (rec : List ℕ) (n : ℕ) (out : List ℕ) → unpacked (length rec) (opened rec) ≡ accept n out → Unpacked rec n out
-unfolding unpack
-passed-out rec n out e = unpack-tells (length out) rec n out (ap (into (length out)) e ∙ into-room (length out) n out (omega arith))
+module _ (rec : List ℕ) where
+  pub unpack-refused : (room k m : ℕ) → tested rec ≡ refuse k m → unpack room rec ≡ refuse k m
+  unfolding tested unpack
+  unpack-refused room k m e =
+      ap (into room) (four-tests (refuse k m) (refuse k m) (λ j l r. r) _ _ _ _ _ _ (λ r. refuse-not-accept (sym r)) e) ∙ into-refuse room k m
 
-passed-of : (rec : List ℕ) (n : ℕ) (out : List ℕ) → Unpacked rec n out → unpacked (length rec) (opened rec) ≡ accept n out → Passed rec n
-passed-of rec n out u e =
-    let behind : bodyOf rec ≡ u .bs = take-all (length rec - 2) (drop 2 rec) (omega (arith, length-drop 2 rec)) ∙ ap (drop 2) (u .headed) in
-    let size : length out ≡ rowLength (u .count) = omega (arith, ap length (u .cells), length-take (rowLength (u .count)) (unbytes (u .bs)), length-unbytes (u .bs)) in
-    let all : n ≡ rowLength (u .count) = u .number ∙ size in
-    let same : take n (unbytes (bodyOf rec)) ≡ out = rw (behind, all) (u .cells) in
-    record {
-      headed = omega (arith, ap length (u .headed));
-      enough = rw behind (omega arith);
-      long = ap length same ∙ sym (u .number);
-      answer = e ∙ ap (accept n) (sym same);
-    }
+  unpack-on : (room n : ℕ) → tested rec ≡ accept n [] → unpack room rec ≡ into room (whole (take (rowLength (countOf rec)) (unbytes (drop 2 rec))))
+  unfolding tested unpack storedCells
+  unpack-on room n e = ap (into room) (four-tests (accept n []) _ (λ j l r. refuse-not-accept r) _ _ _ _ _ _ (λ r. refl) e)
 
-pub tested-passed : (rec : List ℕ) (n : ℕ) → tested rec ≡ accept n [] → Passed rec n
-unfolding tested
-tested-passed rec n e =
-    let both = bare-accept _ n e in
-    passed-of rec n (both .0) (passed-out rec n (both .0) (both .1)) (both .1)
-
-module _ (rec : List ℕ) (room : ℕ) where
-  pub unpack-refused : (k m : ℕ) → tested rec ≡ refuse k m → unpack room rec ≡ refuse k m
-  unfolding unpack tested
-  unpack-refused k m e = ap (into room) (bare-refuse _ k m e) ∙ into-refuse room k m
-
-  pub unpack-room : (n : ℕ) → Passed rec n → room < n → unpack room rec ≡ refuse 5 n
-  unfolding unpack
-  unpack-room n p h = ap (into room) (p .answer) ∙ into-short room n _ (omega (arith, p .long)) ∙ ap (refuse 5) (p .long)
-
-  pub unpack-done : (n : ℕ) → Passed rec n → n ≤ room → unpack room rec ≡ accept n (take n (unbytes (bodyOf rec)))
-  unfolding unpack
-  unpack-done n p h = ap (into room) (p .answer) ∙ into-room room n _ (omega (arith, p .long))
+  pub tested-passed : (n : ℕ) → tested rec ≡ accept n [] → Passed rec n
+  unfolding tested rowLength whole
+  tested-passed n e =
+      let short = then-accept _ _ e in
+      let version = then-accept _ _ (short .1) in
+      let count = then-accept _ _ (version .1) in
+      let cells : rowLength (countOf rec) ≡ n = accept-number (then-accept _ _ (count .1) .1) in
+      let p : Counted rec (countOf rec) = counted (leb-true _ _ (ask-passes _ _ _ (short .0))) (eqb-true _ _ (ask-passes _ _ _ (version .0))) refl (eqb-true _ _ (ask-passes _ _ _ (count .0))) in
+      let body : bodyOf rec ≡ drop 2 rec = take-all (length rec - 2) (drop 2 rec) (omega (arith, length-drop 2 rec)) in
+      let enough : n ≤ 8 * length (drop 2 rec) = omega (arith, length-drop 2 rec) in
+      let long : length (take n (unbytes (drop 2 rec))) ≡ n = length-take-le n _ (omega (arith, length-unbytes (drop 2 rec))) in
+      record { headed = p .two; enough = rw body enough; long = rw body long; answer = λ room. unpack-on room n e ∙ rw (cells, body, long) }

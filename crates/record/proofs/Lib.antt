@@ -1,7 +1,8 @@
+pub mod Lowest
 pub mod Weighs
-pub mod Spreads
-pub mod Spares
 pub mod Packs
+pub mod Spreads
 pub mod Unpacks
+pub mod Spares
 pub mod Tests
 pub mod Answering

@@ -1,4 +1,4 @@
--- The bytes of a row, and a loop that stores them behind a record's head.
+-- The bytes of a row, and a loop that stores them after a record's head.
 -- Assumes nothing.
 use Prim.Native.Nat.{ℕ, zero, suc, _+_, _-_, _*_, _/_, _<_, _≤_, min}
 use mathlib.Core.Path.{_≡_, refl, sym, ap, _∙_}
@@ -8,7 +8,7 @@ use native.Mathlib.Omega.{arith}
 use native.Mathlib.Decide.{decLe}
 use lib.ListN.{length, getD, set, take, drop, length-drop}
 use lib.Seq.{sets, drop-drop, take-all}
-use Rattle.paper.specs.Answers.{Each}
+use Rattle.helpers.specs.Answers.{Each}
 use Rattle.paper.specs.Jobs.{bits, bytes}
 use Rattle.paper.proofs.Bytes.{length-bytes, each-split}
 use Rattle.helpers.proofs.Writes.{Storing, storing-begin, storing-turn, storing-end}
@@ -22,7 +22,7 @@ bytes-at (suc n) cs (suc k) h =
     let place : 8 + 8 * k ≡ 8 * suc k = omega arith in
     bytes-at n (drop 8 cs) k (le-of-suc-le-suc h) ∙ ap (λ (l : List ℕ). bits 128 (take 8 l)) (drop-drop (8 * k) 8 cs ∙ ap (λ (i : ℕ). drop i cs) place)
 
--- the part of a row from place a on that ends behind eight cells, or at the row's end
+-- the part of a row from place a on that ends after eight cells, or at the row's end
 part-of-row : (row : List ℕ) (a e : ℕ) → e ≡ min (a + 8) (length row) → take (e - a) (drop a row) ≡ take 8 (drop a row)
 part-of-row row a e q = elim (decLe (a + 8) (length row)) [ yes h ↦ whole h | no h ↦ rest (omega arith) ]
   where
@@ -38,7 +38,7 @@ part-of-row row a e q = elim (decLe (a + 8) (length row)) [ yes h ↦ whole h | 
 pub part-cells : (row : List ℕ) (a e : ℕ) → Each (λ c. c ≤ 1) row → Each (λ c. c ≤ 1) (take (e - a) (drop a row))
 part-cells row a e h = each-split (λ c. c ≤ 1) (e - a) (drop a row) (each-split (λ c. c ≤ 1) a row h .1) .0
 
--- A loop that has stored k bytes of the row behind the two of the head.
+-- A loop that has stored k bytes of the row after the two of the head.
 pub record Packing (row l₀ l : List ℕ) (k : ℕ) : Type 0 where
   pub stores : Storing l₀ 2 (bytes ((length row + 7) / 8) row) l k
 

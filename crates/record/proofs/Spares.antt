@@ -1,17 +1,17 @@
--- The spare bits of a record are the lowest bits of its last byte, and a remainder tells whether they are 0.
+-- The spare bits of a record are the lowest bits of its last byte: all 0 where a remainder is 0.
 -- Assumes nothing.
-use Prim.Native.Nat.{ℕ, zero, suc, _+_, _-_, _*_, _%_, _<_}
-use mathlib.Core.Path.{_≡_, refl, _∙_}
+use Prim.Native.Nat.{ℕ, suc, _+_, _-_, _*_, _%_, _<_}
+use mathlib.Core.Path.{_≡_, refl}
 use mathlib.Core.Bool.{Bool, true, false, not}
-use mathlib.Core.List.{List, [], _∷_, append-nil}
+use mathlib.Core.List.{List, [], append-nil}
 use native.Mathlib.Omega.{arith}
 use lib.Dec.{T, ltb, ltb→lt, eqb}
-use lib.ListN.{length, getD, drop}
-use lib.Seq.{drop-append-add}
+use lib.ListN.{length, getD, drop, drop-of-length-le}
+use lib.Seq.{drop-drop}
 use Rattle.paper.specs.Jobs.{eight, unbytes, allZero}
-use Rattle.paper.proofs.Below.{below, at}
-use Rattle.record.specs.Lowest.{lowest}
-use Rattle.record.proofs.Spreads.{length-eight}
+use Rattle.helpers.proofs.Below.{below, at}
+use Rattle.record.proofs.Lowest.{lowest}
+use Rattle.record.proofs.Unpacks.{byte-cells}
 
 pub lowest-some : (k : ℕ) → k < 8 → 0 < getD lowest k 0
 unfolding lowest
@@ -39,11 +39,6 @@ spare-bits b k h l =
 -- the cells of m + 1 bytes from within the last one on are cells of that byte
 pub spare-last : (bs : List ℕ) (m used : ℕ) → length bs ≡ suc m → drop (8 * m + used) (unbytes bs) ≡ drop used (eight (getD bs m 0))
 unfolding unbytes
-spare-last [] m used e = absurd (omega arith)
-spare-last (b ∷ []) zero used e =
-    let place : 8 * 0 + used ≡ used = omega arith in
-    rw (place, append-nil (eight b))
-spare-last (b ∷ c ∷ bs) zero used e = absurd (omega arith)
-spare-last (b ∷ bs) (suc m) used e =
-    let place : 8 * suc m + used ≡ length (eight b) + (8 * m + used) = omega (arith, length-eight b) in
-    rw place (drop-append-add (eight b) (unbytes bs) (8 * m + used)) ∙ spare-last bs m used (omega arith)
+spare-last bs m used e =
+    let none : drop (suc m) bs ≡ [] = drop-of-length-le bs {i = suc m} (omega arith) in
+    rw (← drop-drop used (8 * m) (unbytes bs), byte-cells m bs (omega arith), none, append-nil (eight (getD bs m 0)))

@@ -11,7 +11,7 @@ use lib.Dec.{eqb, eqb→eq}
 use lib.ListN.{length, getD, set, take, length-take}
 use lib.Seq.{sets, getD-take}
 use Rattle.paper.specs.Jobs.{eight}
-use Rattle.paper.proofs.Below.{below, at}
+use Rattle.helpers.proofs.Below.{below, at}
 use Rattle.helpers.proofs.Writes.{Storing, storing-begin, storing-turn, storing-end}
 
 pub length-eight : (b : ℕ) → length (eight b) ≡ 8
@@ -25,7 +25,8 @@ next-cell r i h l =
     let test : ℕ → ℕ → Bool = λ x j. eqb (getD (eight (x % 128 * 2)) j 0) (getD (eight x) (suc j) 0) in
     eqb→eq (getD (eight (r % 128 * 2)) i 0) (getD (eight r) (suc i) 0) (at (test r) 7 (at (λ x. below (test x) 7) 256 tt r h) i l)
 
--- A loop that stores the cells of the byte b, as many as the list l₀ has places; j of them are stored, and the others are the first cells of `rest`.
+-- A loop that stores the cells of the byte b into the list l₀ until it is full; j cells are stored,
+-- and the others are the first cells of `rest`.
 pub record Spreading (l₀ : List ℕ) (b : ℕ) (l : List ℕ) (rest j : ℕ) : Type 0 where
   pub short : length l₀ ≤ 8
   pub small : rest < 256

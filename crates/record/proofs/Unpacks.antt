@@ -1,14 +1,14 @@
 -- The cells of some bytes, and a loop that stores the first n of them.
 -- Assumes nothing.
-use Prim.Native.Nat.{ℕ, suc, _+_, _-_, _*_, _<_, _≤_, min}
+use Prim.Native.Nat.{ℕ, zero, suc, _+_, _-_, _*_, _<_, _≤_, min}
 use mathlib.Core.Path.{_≡_, refl, sym, ap, _∙_}
-use mathlib.Core.List.{List, _++_, append-nil}
+use mathlib.Core.List.{List, [], _∷_, _++_, append-nil}
 use native.Mathlib.Nat.{sub-zero}
 use native.Mathlib.Numerals.{add-one}
 use native.Mathlib.Omega.{arith}
 use native.Mathlib.Decide.{decLe}
 use lib.ListN.{length, getD, take, drop, length-take}
-use lib.Seq.{sets, length-sets, drop-cons, take-append-le, take-append-add, take-all}
+use lib.Seq.{sets, length-sets, drop-nil, drop-cons, drop-append-add, take-append-le, take-append-add, take-all}
 use borrow.Rule.Slice.PartMut.{midOf, putMid, mid-len}
 use Rattle.paper.specs.Jobs.{eight, unbytes}
 use Rattle.helpers.proofs.Writes.{sets-then}
@@ -20,6 +20,20 @@ part-spread : (l m : List ℕ) (b a e : ℕ) → a ≤ e → e ≤ length l → 
     → putMid a (e - a) l m ≡ sets l a (take (e - a) (eight b))
 part-spread l m b a e p q s =
     part-stored l m (take (e - a) (eight b)) a e p q (omega (arith, length-take (e - a) (eight b))) (s ∙ ap (λ (k : ℕ). sets (midOf a (e - a) l) 0 (take k (eight b))) (mid-len a e l q))
+
+-- the cells from byte k on are those of the bytes from there on
+cells-from : (k : ℕ) (bs : List ℕ) → drop (8 * k) (unbytes bs) ≡ unbytes (drop k bs)
+unfolding unbytes
+cells-from zero bs = refl
+cells-from (suc k) [] = drop-nil (8 * suc k)
+cells-from (suc k) (b ∷ bs) =
+    let place : 8 * suc k ≡ length (eight b) + 8 * k = omega (arith, length-eight b) in
+    rw place (drop-append-add (eight b) (unbytes bs) (8 * k)) ∙ cells-from k bs
+
+-- and the first of them are those of byte k
+pub byte-cells : (k : ℕ) (bs : List ℕ) → k < length bs → drop (8 * k) (unbytes bs) ≡ eight (getD bs k 0) ++ unbytes (drop (suc k) bs)
+unfolding unbytes
+byte-cells k bs h = cells-from k bs ∙ ap unbytes (drop-cons bs k 0 h)
 
 -- A loop that has stored the cells of k bytes, or all n cells.
 pub record Unpacking (bs : List ℕ) (n : ℕ) (l₀ l : List ℕ) (k : ℕ) : Type 0 where

@@ -8,7 +8,7 @@ use native.Mathlib.Numerals.{add-one}
 use native.Mathlib.Omega.{arith}
 use lib.ListN.{length, getD, drop, drop-of-length-le}
 use lib.Seq.{drop-cons}
-use Rattle.paper.specs.Answers.{Each}
+use Rattle.helpers.specs.Answers.{Each}
 use Rattle.paper.specs.Jobs.{bits}
 
 -- cells weigh less than twice what the first of them weighs

@@ -3,17 +3,18 @@ ghost use Prim.Native.Nat.{_+_, _-_, _*_, _/_, _<_, _≤_};
 ghost use mathlib.Core.Path.{_≡_};
 ghost use lib.ListN.{length, take, drop};
 ghost use lib.Seq.{sets};
-ghost use Rattle.paper.specs.Answers.{Each, Gave};
-ghost use Rattle.paper.specs.Jobs.{pack, unpack, bits, bytes, eight, unbytes, allZero};
-ghost use Rattle.helpers.specs.Numbers.{numberOf, secondOf, tells};
+ghost use Rattle.helpers.specs.Answers.{Each, Gave};
+ghost use Rattle.helpers.specs.Numbers.{numberOf, secondOf};
+ghost use Rattle.helpers.specs.Contracts.{answers};
+ghost use Rattle.paper.specs.Jobs.{pack, unpack, bits, bytes, eight, unbytes, allZero, recordLength};
 ghost use Rattle.record.specs.Tested.{tested};
 use helpers::Answer;
 use helpers::Refusal;
 
-// What a byte is divided by so that so many of its lowest bits remain, none to seven.
+// A byte divided by the number at place k leaves the byte's k lowest bits.
 const LOWEST: [u8; 8] = [1, 2, 4, 8, 16, 32, 64, 128];
 
-// The byte of at most eight cells, the first in the top bit: each weighs half of what the one before it weighs.
+// The byte of at most eight cells, the first in the top bit: each weighs half of the one before it.
 fn byte(cells: &[u8]) -> u8
     requires { ⌜ Each (λ c. c ≤ 1) (now cells) ⌝ }
     ensures { λ r. ⌜ r ≡ bits 128 (now (cells .entry)) ⌝ }
@@ -29,7 +30,8 @@ fn byte(cells: &[u8]) -> u8
     sum
 }
 
-// Writes the bytes of a row behind the record's head: the full ones, and the last where cells are left for it.
+// Writes the bytes of a row after the record's head: the full ones, and a last one where cells are
+// left for it. Full bytes go apart from the last, so that eight cells are summed without a loop.
 fn put_bytes(row: &[u8], out: &mut [u8])
     requires { ⌜ (2 + (length (now row) + 7) / 8 ≤ length (now out)) × Each (λ c. c ≤ 1) (now row) ⌝ }
     ensures { λ _. ⌜ now (out .exit) ≡ sets (now (out .entry)) 2 (bytes ((length (now (row .entry)) + 7) / 8) (now (row .entry))) ⌝ }
@@ -53,9 +55,9 @@ fn put_bytes(row: &[u8], out: &mut [u8])
 pub fn pack(row: &[u8], out: &mut [u8]) -> Answer
     ensures { λ r. ⌜ Gave (pack (length (now (out .entry))) (now (row .entry))) (numberOf r) (secondOf r) (now (out .entry)) (now (out .exit)) ⌝ }
 {
-    let shaped = helpers::shape(row);
-    let Answer::Done(n) = shaped else {
-        return shaped;
+    let so_far = shapes::shape(row);
+    let Answer::Done(n) = so_far else {
+        return so_far;
     };
     let needed = 2 + (row.len() + 7) / 8;
     if out.len() < needed {
@@ -67,7 +69,17 @@ pub fn pack(row: &[u8], out: &mut [u8]) -> Answer
     Answer::Done(needed)
 }
 
-// Whether so many of a byte's lowest bits are all 0.
+// The length of a record of n symbols, 0 where no row has n symbols.
+fn record_length(n: usize) -> usize
+    ensures { λ r. ⌜ r ≡ recordLength n ⌝ }
+{
+    match n {
+        1..=255 => 2 + (11 * n + 31) / 8,
+        _ => 0,
+    }
+}
+
+// Whether the `spare` lowest bits of a byte are all 0.
 fn spare_clear(last: u8, spare: usize) -> bool
     requires { ⌜ spare < 8 ⌝ }
     ensures { λ r. ⌜ r ≡ allZero (drop (8 - spare) (eight last)) ⌝ }
@@ -75,34 +87,24 @@ fn spare_clear(last: u8, spare: usize) -> bool
     last % LOWEST[spare] == 0
 }
 
-// A byte as a number to count with.
-fn wide(x: u8) -> usize
-    ensures { λ r. ⌜ (r ≡ x) × (r < 256) ⌝ }
-{
-    x as usize
-}
-
-// The tests of a record: 20, 21, 22, 23. One that passes is accepted with the number of its cells.
+// The tests of a record: 20, 21, 22, 23. A record that passes is accepted with its number of cells.
 fn test(record: &[u8]) -> Answer
-    ensures { λ r. ⌜ tells r ≡ tested (now («record» .entry)) ⌝ }
+    ensures { λ r. ⌜ answers r ≡ tested (now («record» .entry)) ⌝ }
 {
     let len = record.len();
     if len < 2 {
         return Answer::Refused(Refusal::Short, len);
     }
-    let version = wide(record[0]);
+    let version = helpers::wide(record[0]);
+    let n = helpers::wide(record[1]);
+    let needed = record_length(n);
     if version != 1 {
         return Answer::Refused(Refusal::Version, version);
     }
-    let n = wide(record[1]);
-    if n < 1 {
-        return Answer::Refused(Refusal::Count, 0);
-    }
-    let cells = 11 * n + 24;
-    let needed = 2 + (cells + 7) / 8;
     if len != needed {
         return Answer::Refused(Refusal::Count, needed);
     }
+    let cells = 11 * n + 24;
     let last = len - 1;
     if !spare_clear(record[last], 8 * (len - 2) - cells) {
         return Answer::Refused(Refusal::Spare, last);
@@ -110,7 +112,7 @@ fn test(record: &[u8]) -> Answer
     Answer::Done(cells)
 }
 
-// Writes the cells of a byte, the first from its top bit, as many as the part holds.
+// Writes the cells of a byte, the first from its top bit, until the part is full.
 fn spread(part: &mut [u8], b: u8)
     requires { ⌜ length (now part) ≤ 8 ⌝ }
     ensures { λ _. ⌜ now (part .exit) ≡ sets (now (part .entry)) 0 (take (length (now (part .entry))) (eight b)) ⌝ }
@@ -124,7 +126,8 @@ fn spread(part: &mut [u8], b: u8)
     }
 }
 
-// Writes the first `n` cells of some bytes into the front of `out`: the full bytes, and what is left of the last.
+// Writes the first `n` cells of some bytes into the front of `out`: those of the full bytes, and
+// what is left of the last.
 fn put_cells(bytes: &[u8], n: usize, out: &mut [u8])
     requires { ⌜ (n ≤ 8 * length (now bytes)) × (n ≤ length (now out)) ⌝ }
     ensures { λ _. ⌜ now (out .exit) ≡ sets (now (out .entry)) 0 (take n (unbytes (now (bytes .entry)))) ⌝ }
@@ -147,13 +150,13 @@ fn put_cells(bytes: &[u8], n: usize, out: &mut [u8])
 pub fn unpack(record: &[u8], out: &mut [u8]) -> Answer
     ensures { λ r. ⌜ Gave (unpack (length (now (out .entry))) (now («record» .entry))) (numberOf r) (secondOf r) (now (out .entry)) (now (out .exit)) ⌝ }
 {
-    let tested = test(record);
-    let Answer::Done(n) = tested else {
-        return tested;
+    let so_far = test(record);
+    let Answer::Done(cells) = so_far else {
+        return so_far;
     };
-    if out.len() < n {
-        return Answer::Refused(Refusal::Room, n);
+    if out.len() < cells {
+        return Answer::Refused(Refusal::Room, cells);
     }
-    put_cells(&record[2..], n, out);
-    Answer::Done(n)
+    put_cells(&record[2..], cells, out);
+    Answer::Done(cells)
 }

@@ -5,22 +5,22 @@ use mathlib.Core.Path.{_≡_, refl}
 use mathlib.Core.List.{List}
 use native.Mathlib.Omega.{arith}
 use lib.ListN.{length}
-use Rattle.paper.specs.Answers as Paper
-use Rattle.paper.specs.Answers.{refuse, accept, Refused, second, Gave}
-use Rattle.paper.specs.Jobs.{reading, answer, read}
-use Rattle.paper.proofs.Reading.{read-size}
-use Rattle.paper.proofs.Results.{zero-accepts}
+use Rattle.helpers.specs.Answers as Paper
+use Rattle.helpers.specs.Answers.{refuse, accept, Accepted, second, Gave}
 use Rattle.helpers.specs.declared.Answer.{Answer}
 use Rattle.helpers.specs.declared.Answer.the-variants.{Done}
 use Rattle.helpers.specs.Numbers.{numberOf, secondOf}
+use Rattle.paper.specs.Jobs.{read}
+use Rattle.paper.proofs.Reading.{read-size}
+use Rattle.paper.proofs.Results.{read-owes}
 
-limited : (a : Paper.Answer) (n : ℕ) → ¬ Refused a → n ≡ second a → ((m : ℕ) (s : List ℕ) → a ≡ accept m s → m ≤ 255) → n ≤ 255
+limited : (a : Paper.Answer) (n : ℕ) → Accepted a → n ≡ second a → ((m : ℕ) (s : List ℕ) → a ≡ accept m s → m ≤ 255) → n ≤ 255
 unfolding second
-limited (refuse k m) n r e f = absurd (r tt)
+limited (refuse k m) n r e f = absurd r
 limited (accept m s) n r e f = omega (arith, f m s refl)
 
 pub counted : (v : Answer) (n : ℕ) (row buf out : List ℕ) → v ≡ Done n → Gave (read (length buf) row) (numberOf v) (secondOf v) buf out → n ≤ 255
-unfolding answer numberOf secondOf
+unfolding numberOf secondOf
 counted v n row buf out e g =
     let gave : Gave (read (length buf) row) 0 n buf out = rw e at g in
-    limited (read (length buf) row) n (zero-accepts reading row n buf out gave) (gave .gave-second) (λ m s h. read-size (length buf) row m s h .2)
+    limited (read (length buf) row) n (read-owes .zero-accepts row n buf out gave) (gave .gave-second) (λ m s h. read-size (length buf) row m s h .2)

@@ -1,8 +1,8 @@
-// Replays a list of what the crate barcoders 2.0.0 answers. A line of the input has the code points of a label, as the
-// label program takes them, and gives one line out: `Length` or `Character`, the crate's errors, or the row's cells and then
-// the numbers of its symbols and of its check. rust/replay makes the list by running the crate.
+// Replays a list of what the crate barcoders 2.0.0 answers. A line of the input has the code
+// points of a label, as the label program takes them, and gives one line out: `Length` or
+// `Character`, the crate's errors, or the row's cells and then the numbers of its symbols and of
+// its check. rust/answers makes the list by running the crate.
 ghost use Prim.Native.Nat.{_≤_};
-ghost use mathlib.Core.Path.{_≡_};
 ghost use lib.ListN.{length};
 use helpers::Answer;
 use libc::STDIN_FILENO;
@@ -14,20 +14,13 @@ struct State {
     more: bool,
 }
 
-// A byte as a wider number.
-fn long(x: u8) -> u64
-    ensures { λ r. ⌜ r ≡ x ⌝ }
+// The place after the last blank, or 0: the cells stand there.
+fn after_blank(line: &[u8]) -> usize
+    ensures { λ r. ⌜ r ≤ length (now (line .entry)) ⌝ }
 {
-    x as u64
-}
-
-// The place behind the last blank, or 0.
-fn behind_blank(told: &[u8]) -> usize
-    ensures { λ r. ⌜ r ≤ length (now (told .entry)) ⌝ }
-{
-    let mut i = told.len();
+    let mut i = line.len();
     while 0 < i {
-        if told[i - 1] == b' ' {
+        if line[i - 1] == b' ' {
             return i;
         }
         i -= 1;
@@ -35,7 +28,7 @@ fn behind_blank(told: &[u8]) -> usize
     i
 }
 
-// Digits as cells, as far as both reach; answers how many. What is neither 0 nor 1 becomes no cell.
+// Digits as cells, as far as both reach; returns how many. What is neither 0 nor 1 becomes no cell.
 fn cells(digits: &[u8], row: &mut [u8]) -> usize
     ensures { λ r. ⌜ r ≤ length (now (row .entry)) ⌝ }
 {
@@ -53,7 +46,7 @@ fn show_numbers(list: &[u8]) {
     let mut i: usize = 0;
     while i < list.len() {
         io::write_all(STDOUT_FILENO, b" ");
-        io::print_decimal(STDOUT_FILENO, long(list[i]));
+        io::print_decimal(STDOUT_FILENO, helpers::wide(list[i]) as u64);
         i += 1;
     }
 }
@@ -71,7 +64,7 @@ fn show_symbols(row: &[u8]) {
     show_numbers(&list[0..n + 1]);
 }
 
-// Writes a row as it was told, and what it is read as.
+// Writes a row as the label program gives it, and what it is read as.
 fn show_row(digits: &[u8]) {
     io::write_all(STDOUT_FILENO, digits);
     let mut row = [0u8; 2829];
@@ -79,16 +72,17 @@ fn show_row(digits: &[u8]) {
     show_symbols(&row[0..n]);
 }
 
-// Writes one answer of the label program in the crate's words; an answer that the crate cannot give stays as it is.
-fn show(told: &[u8]) {
-    if told.len() < 1 {
+// Writes one line of the label program in the crate's words; an answer that the crate cannot give
+// stays as it is.
+fn show(line: &[u8]) {
+    if line.len() < 1 {
         return;
     }
-    let end = told.len() - 1;
-    match told[0] {
+    let end = line.len() - 1;
+    match line[0] {
         b'0' => {
-            let at = behind_blank(&told[0..end]);
-            show_row(&told[at..end]);
+            let at = after_blank(&line[0..end]);
+            show_row(&line[at..end]);
         }
         b'2' => {
             io::write_all(STDOUT_FILENO, b"Length");
@@ -97,16 +91,16 @@ fn show(told: &[u8]) {
             io::write_all(STDOUT_FILENO, b"Character");
         }
         _ => {
-            io::write_all(STDOUT_FILENO, &told[0..end]);
+            io::write_all(STDOUT_FILENO, &line[0..end]);
         }
     }
     io::write_all(STDOUT_FILENO, b"\n");
 }
 
-// Goes over one chunk and answers how much of the line's buffer is filled. The output has room for one answer, so `feed`
-// comes back after each.
+// Goes over one chunk and returns how much of the line's buffer is filled. The output has room
+// for one answer, so `feed` comes back after each.
 fn pump(chunk: &[u8], line: &mut [u8], len: usize) -> usize {
-    let mut out = [0u8; 2840];
+    let mut out = [0u8; lines::ANSWER];
     let mut at: usize = 0;
     let mut n = len;
     while at < chunk.len() {
@@ -124,19 +118,14 @@ fn turn(chunk: &mut [u8], line: &mut [u8], len: usize) -> State {
     let got = libc::read(STDIN_FILENO, chunk);
     let n = io::count(got, chunk);
     if n < 1 {
-        return State {
-            len: len,
-            more: false,
-        };
+        return State { len, more: false };
     }
-    let filled = pump(&chunk[0..n], line, len);
-    State {
-        len: filled,
-        more: true,
-    }
+    let len = pump(&chunk[0..n], line, len);
+    State { len, more: true }
 }
 
-// Reads to the input's end; counts its turns down, from a number that no run uses up.
+// Reads to the input's end; counts its turns down, from a number that no run uses up, since a
+// proved loop has to end.
 fn drain(chunk: &mut [u8], line: &mut [u8]) -> usize {
     let mut len: usize = 0;
     let mut turns = u64::MAX;
@@ -154,9 +143,9 @@ fn drain(chunk: &mut [u8], line: &mut [u8]) -> usize {
 // Replays all lines, a last one without newline too.
 fn main() {
     let mut chunk = [0u8; 65536];
-    let mut line = [0u8; 4097];
+    let mut line = [0u8; lines::LINE];
     let len = drain(&mut chunk, &mut line);
-    let mut out = [0u8; 2840];
+    let mut out = [0u8; lines::ANSWER];
     let n = lines::finish(&line, len, &mut out);
     show(&out[0..n]);
 }

@@ -1,11 +1,13 @@
-// The C face of the seven jobs: the same contracts, with the answer by value. include/slatmonief.h declares them.
+// The C face of the seven jobs: the same contracts, with the answer by value. include/slatmonief.h
+// declares them.
 ghost use lib.ListN.{length};
-ghost use Rattle.paper.specs.Answers.{Gave};
+ghost use Rattle.helpers.specs.Answers.{Gave};
 ghost use Rattle.paper.specs.Jobs.{encode, draw, read, spell, scan, pack, unpack};
 ghost use Rattle.slatmonief.specs.Numbered.{Numbered};
 use helpers::Answer;
 
-// Document 01's two numbers: 0 and the number of an acceptance, or a refusal's number and its second number.
+// Document 01's two numbers: 0 and the number of an acceptance, or a refusal's number and its
+// second number.
 #[repr(C)]
 pub struct Numbers {
     pub number: u32,

@@ -1,22 +1,24 @@
--- What one number says: never more than two elements; its letters are its own letter, or else what is sent for it.
+-- What one number gives: never more than two elements; its letters are its own letter, or else what
+-- is sent for it.
 -- Assumes nothing.
-use Prim.Native.Nat.{ℕ, _+_, _-_, _<_, _≤_}
+use Prim.Native.Nat.{ℕ, zero, suc, _+_, _-_, _<_, _≤_}
 use mathlib.Core.Path.{_≡_, refl, ap, _∙_}
 use mathlib.Core.Bool.{Bool}
 use mathlib.Core.List.{List, [], _∷_}
-use native.Mathlib.Numerals.{add-one}
 use native.Mathlib.Omega.{arith}
-use native.Mathlib.Decide.{decLt}
-use lib.ListN.{length, set}
+use native.Mathlib.Decide.{decLe}
+use lib.ListN.{length, set, drop}
 use borrow.Author.Tests.{lt-leb, le-leb}
+use Rattle.helpers.specs.Contracts.{Stored}
+use Rattle.helpers.proofs.Below.{at}
+use Rattle.helpers.proofs.Gives.{stored-one, stored-then}
 use Rattle.paper.specs.Iso15417.{Set, before, A, B, C, same, sent}
-use Rattle.paper.specs.Crate.{crate-computes, À, Ɓ, Ć, Ź, ź, Ż, ż, Ž, ÷, Span, one, inBoth, spans, asList, pointIn, letters}
-use Rattle.paper.proofs.Below.{at}
-use Rattle.paper.proofs.Answering.{truth}
-use Rattle.paper.proofs.Table.{same-true}
+use Rattle.paper.specs.Crate.{Span, span, spans, asList, pointIn, letters}
+use Rattle.paper.proofs.Computes.{crate-computes}
+use Rattle.paper.proofs.Table.{as-same}
 use Rattle.speller.specs.declared.Said.{Said}
 use Rattle.speller.specs.declared.Said.the-variants.{Nothing, One, Two}
-use Rattle.speller.specs.Walked.{saidOf, runsOf, ownOf, Stored}
+use Rattle.speller.specs.Walked.{saidOf, runsOf, ownOf}
 
 pub said-short : (x : Said) → length (saidOf x) ≤ 2
 unfolding saidOf
@@ -24,7 +26,7 @@ said-short Nothing = omega arith
 said-short (One a) = omega arith
 said-short (Two a b) = omega arith
 
--- ---- what is said, and stored
+-- ---- what a number gives, and stored
 
 pub one-said : {x : Said} {c : ℕ} → x ≡ One c → saidOf x ≡ c ∷ []
 unfolding saidOf
@@ -37,54 +39,42 @@ two-said e = rw e
 module _ (l : List ℕ) (at : ℕ) where
   pub none-stored : {x : Said} → x ≡ Nothing → Stored (saidOf x) l at l at
   unfolding saidOf
-  none-stored e = record { stored = rw e; behind = rw e (omega arith) }
+  none-stored e = record { stored = rw e; next = rw e (omega arith) }
 
   pub one-stored : {x : Said} {c : ℕ} → x ≡ One c → Stored (saidOf x) l at (set l at c) (at + 1)
-  unfolding saidOf
-  one-stored e = record { stored = rw e; behind = rw e (omega arith) }
+  one-stored e = rw (one-said e) stored-one
 
   pub two-stored : {x : Said} {a b : ℕ} → x ≡ Two a b → Stored (saidOf x) l at (set (set l at a) (at + 1) b) (at + 1 + 1)
-  unfolding saidOf
-  two-stored e = record { stored = rw (e, add-one at); behind = rw e (omega arith) }
+  two-stored e = rw (two-said e) (stored-then stored-one stored-one)
 
 -- ---- the numbers that have no letter of their own
 
--- the first letter of a list is another number's
-another : (c n m : ℕ) (t : List Span) → (m ≡ n → ⊥) → pointIn (one c n ∷ t) m ≡ pointIn t m
+-- none of the first k spans holds the number m; `Past` of tokens is the same of a code point
+abbrev pub Past : ℕ → List Span → ℕ → Type 0
+Past zero t m = Unit {0}
+Past (suc k) [] m = Unit {0}
+Past (suc k) (span a b n ∷ t) m = (n ≤ m → m ≤ n + (b - a) → ⊥) × Past k t m
+
+point-out : (a b n : ℕ) (t : List Span) (m : ℕ) → (n ≤ m → m ≤ n + (b - a) → ⊥) → pointIn (span a b n ∷ t) m ≡ pointIn t m
 unfolding pointIn
-another c n m t h = elim (decLt m n) [ yes l ↦ rw (lt-leb n m l) | no l ↦ rw (le-leb n m (omega arith), lt-leb m (n + (c - c)) (omega arith)) ]
+point-out a b n t m h = elim (decLe n m) [ yes low ↦ rw (le-leb n m low, lt-leb m (n + (b - a)) (over low)) | no low ↦ rw (lt-leb n m (omega arith)) ]
+  where
+    over : n ≤ m → n + (b - a) < m
+    over low = omega (arith, h low)
 
--- so are the first three
-three : (c c′ c″ n n′ n″ m : ℕ) (t : List Span) → (m ≡ n → ⊥) → (m ≡ n′ → ⊥) → (m ≡ n″ → ⊥) → pointIn (one c n ∷ one c′ n′ ∷ one c″ n″ ∷ t) m ≡ pointIn t m
-three c c′ c″ n n′ n″ m t f g h = another c n m _ f ∙ another c′ n′ m _ g ∙ another c″ n″ m t h
+pub point-past : (k : ℕ) (t : List Span) (m : ℕ) → Past k t m → pointIn t m ≡ pointIn (drop k t) m
+point-past zero t m h = refl
+point-past (suc k) [] m h = refl
+point-past (suc k) (span a b n ∷ t) m h = point-out a b n t m (h .0) ∙ point-past k t m (h .1)
 
-module _ (m : ℕ) where
-  no-more : asList (pointIn [] m) ≡ []
-  unfolding asList pointIn
-  no-more = refl
+-- the first k letters of a set are those of other numbers
+pub own-past : (s : Set) (k m : ℕ) → Past k (drop (runsOf s) (spans s)) m → ownOf s m ≡ asList (pointIn (drop k (drop (runsOf s) (spans s))) m)
+unfolding ownOf
+own-past s k m h = ap asList (point-past k (drop (runsOf s) (spans s)) m h)
 
-  pub both-none : (m ≡ 96 → ⊥) → (m ≡ 97 → ⊥) → (m ≡ 98 → ⊥) → (m ≡ 99 → ⊥) → (m ≡ 102 → ⊥) → asList (pointIn inBoth m) ≡ []
-  unfolding inBoth
-  both-none f g h i j = ap asList (three Ż ź Ž 96 97 98 m _ f g h ∙ another Ć 99 m _ i ∙ another Ź 102 m _ j) ∙ no-more
+-- ---- the letters of a number: its own letter, or else what is sent
 
-  pub own-a : (m ≡ 100 → ⊥) → (m ≡ 101 → ⊥) → ownOf A m ≡ asList (pointIn inBoth m)
-  unfolding ownOf runsOf spans
-  own-a f g = ap asList (another Ɓ 100 m _ f ∙ another ż 101 m _ g)
-
-  pub own-b : (m ≡ 95 → ⊥) → (m ≡ 100 → ⊥) → (m ≡ 101 → ⊥) → ownOf B m ≡ asList (pointIn inBoth m)
-  unfolding ownOf runsOf spans
-  own-b f g h = ap asList (three ÷ ż À 95 100 101 m _ f g h)
-
-  pub own-c : (m ≡ 100 → ⊥) → (m ≡ 101 → ⊥) → (m ≡ 102 → ⊥) → ownOf C m ≡ []
-  unfolding ownOf runsOf spans
-  own-c f g h = ap asList (three Ɓ À Ź 100 101 102 m _ f g h) ∙ no-more
-
-  pub own-before : (m ≡ 103 → ⊥) → (m ≡ 104 → ⊥) → (m ≡ 105 → ⊥) → ownOf before m ≡ []
-  unfolding ownOf runsOf spans
-  own-before f g h = ap asList (three À Ɓ Ć 103 104 105 m _ f g h) ∙ no-more
-
--- ---- the letters of a number: its own letter, or else what is sent; one test at every number of a byte
-
+-- the first list, or the second where the first is empty
 abbrev orElse : List ℕ → List ℕ → List ℕ
 orElse [] ys = ys
 orElse (x ∷ xs) ys = x ∷ xs
@@ -97,19 +87,20 @@ or-some : (xs ys : List ℕ) → 1 ≤ length xs → orElse xs ys ≡ xs
 or-some [] ys h = absurd (omega arith)
 or-some (x ∷ xs) ys h = refl
 
-abbrev splits : Set → ℕ → Bool
-splits s m = same (letters s m) (orElse (ownOf s m) (sent s m))
+-- a number has such letters: one test, which antt computes at every number of a byte
+abbrev isOwnOrSent : Set → ℕ → Bool
+isOwnOrSent s m = same (letters s m) (orElse (ownOf s m) (sent s m))
 
-split : (s : Set) (m : ℕ) → m < 256 → letters s m ≡ orElse (ownOf s m) (sent s m)
+own-or-sent : (s : Set) (m : ℕ) → m < 256 → letters s m ≡ orElse (ownOf s m) (sent s m)
 unfolding crate-computes ownOf runsOf
-split before m h = same-true _ _ (truth _ (at (splits before) 256 tt m h))
-split A m h = same-true _ _ (truth _ (at (splits A) 256 tt m h))
-split B m h = same-true _ _ (truth _ (at (splits B) 256 tt m h))
-split C m h = same-true _ _ (truth _ (at (splits C) 256 tt m h))
+own-or-sent before m h = as-same _ _ (at (isOwnOrSent before) 256 tt m h)
+own-or-sent A m h = as-same _ _ (at (isOwnOrSent A) 256 tt m h)
+own-or-sent B m h = as-same _ _ (at (isOwnOrSent B) 256 tt m h)
+own-or-sent C m h = as-same _ _ (at (isOwnOrSent C) 256 tt m h)
 
 module _ (s : Set) (m : ℕ) (h : m < 256) where
   pub letters-sent : length (ownOf s m) < 1 → letters s m ≡ sent s m
-  letters-sent e = split s m h ∙ or-none (ownOf s m) (sent s m) e
+  letters-sent e = own-or-sent s m h ∙ or-none (ownOf s m) (sent s m) e
 
   pub letters-own : 1 ≤ length (ownOf s m) → letters s m ≡ ownOf s m
-  letters-own e = split s m h ∙ or-some (ownOf s m) (sent s m) e
+  letters-own e = own-or-sent s m h ∙ or-some (ownOf s m) (sent s m) e

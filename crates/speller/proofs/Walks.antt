@@ -1,4 +1,5 @@
--- A walk over the numbers of a list, each saying its elements in its set: loops that count them and that store them.
+-- A walk over the numbers of a symbol list, each giving its elements in its set: a loop that counts
+-- them, and loops that store them.
 -- Assumes nothing.
 use Prim.Native.Nat.{ℕ, _+_, _*_, _<_, _≤_}
 use mathlib.Core.Path.{_≡_, refl, ap, _∙_}
@@ -7,12 +8,13 @@ use native.Mathlib.Numerals.{add-one}
 use native.Mathlib.Omega.{arith}
 use lib.ListN.{length, getD, drop, drop-of-length-le, length-append}
 use lib.Seq.{drop-cons, length-sets, sets}
+use Rattle.helpers.specs.Contracts.{Stored}
+use Rattle.helpers.proofs.Writes.{Writing, writing-begin, writing-block, writing-end}
 use Rattle.paper.specs.Iso15417.{Set, before, next, sent, scanned}
 use Rattle.paper.specs.Crate.{letters, spellFrom}
-use Rattle.helpers.proofs.Writes.{Writing, writing-begin, writing-block, writing-end}
-use Rattle.speller.specs.Walked.{walked, Stored}
+use Rattle.speller.specs.Walked.{walked}
 
--- ---- the two walks
+-- ---- the two walks are those of the paper
 
 pub walked-letters : (s : Set) (ms : List ℕ) → walked letters s ms ≡ spellFrom s ms
 unfolding walked spellFrom
@@ -24,10 +26,10 @@ unfolding walked scanned
 walked-sent s [] = refl
 walked-sent s (m ∷ ms) = rw (walked-sent (next s m) ms)
 
--- ---- one number, and none
+-- ---- the walk at a number, and at the end
 
 module _ (say : Set → ℕ → List ℕ) (s : List ℕ) (set : Set) (i : ℕ) where
-  -- what is left to say from place i on, in this set
+  -- what the numbers from place i on give, in this set
   abbrev pub rest : List ℕ
   rest = walked say set (drop i s)
 
@@ -41,7 +43,8 @@ module _ (say : Set → ℕ → List ℕ) (s : List ℕ) (set : Set) (i : ℕ) w
 
 -- ---- counting
 
--- A loop that has counted what the numbers before place i say, n elements, and has come to this set.
+-- A loop that has counted what the numbers before place i give, n elements, and has come to this
+-- set.
 pub record Counting (say : Set → ℕ → List ℕ) (s : List ℕ) (set : Set) (n i : ℕ) : Type 0 where
   pub within : i ≤ length s
   pub short : n ≤ 2 * i
@@ -62,33 +65,34 @@ counting-end {say} {s} {set} {n} {i} p h = omega (arith, p .left, ap length (wal
 
 -- ---- storing
 
--- A loop that has stored what the numbers before place i say from place 0 of l₀ on, up to place at, and has come to this set.
-pub record Telling (say : Set → ℕ → List ℕ) (s l₀ : List ℕ) (set : Set) (l : List ℕ) (at i : ℕ) : Type 0 where
+-- A loop that has stored what the numbers before place i give from place 0 of l₀ on, up to place
+-- `at`, and has come to this set.
+pub record Filling (say : Set → ℕ → List ℕ) (s l₀ : List ℕ) (set : Set) (l : List ℕ) (at i : ℕ) : Type 0 where
   pub within : i ≤ length s
   pub fits : at + length (rest say s set i) ≤ length l
   pub writing : Writing l₀ 0 (walked say before s) l at (rest say s set i)
 
-pub telling-begin : {say : Set → ℕ → List ℕ} {s l : List ℕ} → length (walked say before s) ≤ length l → Telling say s l before l 0 0
-telling-begin h = record { within = omega arith; fits = omega arith; writing = writing-begin }
+pub filling-begin : {say : Set → ℕ → List ℕ} {s l : List ℕ} → length (walked say before s) ≤ length l → Filling say s l before l 0 0
+filling-begin h = record { within = omega arith; fits = omega arith; writing = writing-begin }
 
-pub telling-fits : {say : Set → ℕ → List ℕ} {s l₀ l vs : List ℕ} {set : Set} {at i : ℕ} → Telling say s l₀ set l at i → i < length s
+pub filling-fits : {say : Set → ℕ → List ℕ} {s l₀ l vs : List ℕ} {set : Set} {at i : ℕ} → Filling say s l₀ set l at i → i < length s
     → vs ≡ say set (getD s i 0) → at + length vs ≤ length l
-telling-fits {say} {s} {l₀} {l} {vs} {set} {at} {i} p h e =
+filling-fits {say} {s} {l₀} {l} {vs} {set} {at} {i} p h e =
     let here = ap length (walked-here say s set i h) in
     let both = length-append (say set (getD s i 0)) (walked say (next set (getD s i 0)) (drop (i + 1) s)) in
     rw e (omega (arith, p .fits, here, both))
 
-pub telling-turn : {say : Set → ℕ → List ℕ} {s l₀ l vs l′ : List ℕ} {set set′ : Set} {at i r : ℕ} → Telling say s l₀ set l at i → i < length s
-    → vs ≡ say set (getD s i 0) → set′ ≡ next set (getD s i 0) → Stored vs l at l′ r → Telling say s l₀ set′ l′ r (i + 1)
-telling-turn {say} {s} {l₀} {l} {vs} {l′} {set} {set′} {at} {i} {r} p h e q t =
+pub filling-turn : {say : Set → ℕ → List ℕ} {s l₀ l vs l′ : List ℕ} {set set′ : Set} {at i r : ℕ} → Filling say s l₀ set l at i → i < length s
+    → vs ≡ say set (getD s i 0) → set′ ≡ next set (getD s i 0) → Stored vs l at l′ r → Filling say s l₀ set′ l′ r (i + 1)
+filling-turn {say} {s} {l₀} {l} {vs} {l′} {set} {set′} {at} {i} {r} p h e q t =
     let here = walked-here say s set i h in
     let both = length-append (say set (getD s i 0)) (walked say (next set (getD s i 0)) (drop (i + 1) s)) in
     let same = ap length (t .stored) ∙ length-sets l at vs in
     record {
       within = omega arith;
-      fits = rw q (omega (arith, p .fits, ap length here, both, same, t .behind, ap length e));
-      writing = rw q (writing-block vs (p .writing) (here ∙ rw e) (t .stored) (t .behind));
+      fits = rw q (omega (arith, p .fits, ap length here, both, same, t .next, ap length e));
+      writing = rw q (writing-block vs (p .writing) (here ∙ rw e) (t .stored) (t .next));
     }
 
-pub telling-end : {say : Set → ℕ → List ℕ} {s l₀ l : List ℕ} {set : Set} {at i : ℕ} → Telling say s l₀ set l at i → length s ≤ i → l ≡ sets l₀ 0 (walked say before s)
-telling-end {say} {s} {l₀} {l} {set} {at} {i} p h = writing-end (p .writing) (walked-done say s set i h)
+pub filling-end : {say : Set → ℕ → List ℕ} {s l₀ l : List ℕ} {set : Set} {at i : ℕ} → Filling say s l₀ set l at i → length s ≤ i → l ≡ sets l₀ 0 (walked say before s)
+filling-end {say} {s} {l₀} {l} {set} {at} {i} p h = writing-end (p .writing) (walked-done say s set i h)

@@ -1,26 +1,28 @@
-// A symbol list told again: spelled as the code points that encode to it, or as the bytes that a scanner sends for it.
-use code128::CharacterSet;
-use helpers::Answer;
-use helpers::Refusal;
+// A symbol list written out: as the code points that encode to it, or as the bytes that a scanner
+// sends for it.
 ghost use Prim.Native.Nat.{_+_, _<_, _≤_};
 ghost use mathlib.Core.Path.{_≡_};
 ghost use lib.ListN.{length};
 ghost use lib.Seq.{sets};
-ghost use Rattle.paper.specs.Answers.{Each, Gave};
+ghost use Rattle.helpers.specs.Answers.{Each, Gave};
+ghost use Rattle.helpers.specs.Numbers.{numberOf, secondOf};
+ghost use Rattle.helpers.specs.Contracts.{answers, Stored};
 ghost use Rattle.paper.specs.Iso15417.{before, sent};
 ghost use Rattle.paper.specs.Crate.{inBoth, asList, pointIn, letters};
 ghost use Rattle.paper.specs.Jobs.{spell, scan};
-ghost use Rattle.helpers.specs.Numbers.{numberOf, secondOf, tells};
-ghost use Rattle.code128.specs.Sets.{setOf};
-ghost use Rattle.speller.specs.Walked.{saidOf, ownOf, sayOf, walked, fitted, Stored};
+ghost use Rattle.tokens.specs.Sets.{setOf};
+ghost use Rattle.speller.specs.Walked.{saidOf, ownOf, sayOf, walked, fitted};
+use helpers::Answer;
+use helpers::Refusal;
+use tokens::CharacterSet;
 
-// The two ways to tell a symbol list.
+// What is written for a symbol list: code points, by spell, or bytes, by scan.
 enum Way {
     Letters,
     Bytes,
 }
 
-// What one number gives: at most two elements.
+// What one number of a symbol list gives: at most two elements.
 enum Said {
     Nothing,
     One(u32),
@@ -28,7 +30,7 @@ enum Said {
 }
 
 impl Said {
-    // How many elements there are.
+    // The number of its elements.
     fn count(self) -> usize
         ensures { λ r. ⌜ r ≡ length (saidOf self) ⌝ }
     {
@@ -40,7 +42,8 @@ impl Said {
     }
 }
 
-// The bytes that a scanner sends for a number: none for a START, a switch, Shift or a function symbol.
+// The bytes that a scanner sends for a number: one character in set A or B, two digits in set C;
+// nothing for a START, a switch, Shift or a function symbol.
 fn sent(set: CharacterSet, m: u8) -> Said
     ensures { λ r. ⌜ saidOf r ≡ sent (setOf set) m ⌝ }
 {
@@ -64,7 +67,7 @@ fn sent(set: CharacterSet, m: u8) -> Said
     }
 }
 
-// The letters that sets A and B share: the function symbols, Shift and the switch to C.
+// The letters that sets A and B share: those of FNC3, FNC2, Shift, the switch to set C and FNC1.
 fn in_both(m: u8) -> Said
     ensures { λ r. ⌜ saidOf r ≡ asList (pointIn inBoth m) ⌝ }
 {
@@ -78,7 +81,8 @@ fn in_both(m: u8) -> Said
     }
 }
 
-// A number's own letter: the crate has one for each number that gives no byte, and ÷ for DEL.
+// A number's own letter: the crate has one for each number for which a scanner sends nothing, and ÷
+// for DEL.
 fn own(set: CharacterSet, m: u8) -> Said
     ensures { λ r. ⌜ saidOf r ≡ ownOf (setOf set) m ⌝ }
 {
@@ -120,7 +124,7 @@ fn letters(set: CharacterSet, m: u8) -> Said
     letter
 }
 
-// What a number gives, the one way or the other: so that one function counts for both jobs.
+// What a number gives, the one way or the other: so that `needed` and `fit` serve both jobs.
 fn say(way: Way, set: CharacterSet, m: u8) -> Said
     ensures { λ r. ⌜ saidOf r ≡ sayOf way (setOf set) m ⌝ }
 {
@@ -130,7 +134,8 @@ fn say(way: Way, set: CharacterSet, m: u8) -> Said
     }
 }
 
-// How many elements a symbol list gives: refusal 5 tells it, and nothing may be written before.
+// The number of elements that a symbol list gives. It is counted before anything is written,
+// because refusal 5 answers with it and must leave the buffer as it was.
 fn needed(way: Way, symbols: &[u8]) -> usize
     ensures { λ r. ⌜ r ≡ length (walked (sayOf way) before (now (symbols .entry))) ⌝ }
 {
@@ -146,13 +151,14 @@ fn needed(way: Way, symbols: &[u8]) -> usize
     n
 }
 
-// The tests of both jobs in their order, 10, 13, 5; accepted with the number of elements. Writes nothing.
+// The tests of both jobs in their order, 10, 13, 5. Accepts with the number of elements, and writes
+// nothing.
 fn fit(way: Way, symbols: &[u8], room: usize) -> Answer
-    ensures { λ r. ⌜ tells r ≡ fitted (sayOf way) room (now (symbols .entry)) ⌝ }
+    ensures { λ r. ⌜ answers r ≡ fitted (sayOf way) room (now (symbols .entry)) ⌝ }
 {
-    let tested = helpers::vet(symbols);
-    let Answer::Done(_) = tested else {
-        return tested;
+    let so_far = shapes::vet(symbols);
+    let Answer::Done(_) = so_far else {
+        return so_far; // 10 or 13
     };
     let n = needed(way, symbols);
     if room < n {
@@ -161,7 +167,7 @@ fn fit(way: Way, symbols: &[u8], room: usize) -> Answer
     Answer::Done(n)
 }
 
-// Writes the code points of one number from place `at` on, and answers the place behind them.
+// Writes the code points of one number from place `at` on, and returns the place after them.
 fn put_letters(out: &mut [u32], at: usize, said: Said) -> usize
     requires { ⌜ at + length (saidOf said) ≤ length (now out) ⌝ }
     ensures { λ r. ⌜ Stored (saidOf said) (now (out .entry)) at (now (out .exit)) r ⌝ }
@@ -182,7 +188,8 @@ fn put_letters(out: &mut [u32], at: usize, said: Said) -> usize
     }
 }
 
-// The same with the bytes of one number.
+// Writes the bytes of one number from place `at` on, and returns the place after them. They are
+// below 128, so that the casts lose nothing.
 fn put_bytes(out: &mut [u8], at: usize, said: Said) -> usize
     requires { ⌜ (at + length (saidOf said) ≤ length (now out)) × Each (λ c. c < 128) (saidOf said) ⌝ }
     ensures { λ r. ⌜ Stored (saidOf said) (now (out .entry)) at (now (out .exit)) r ⌝ }
@@ -203,7 +210,8 @@ fn put_bytes(out: &mut [u8], at: usize, said: Said) -> usize
     }
 }
 
-// Writes the code points of a symbol list into the front of `out`.
+// Writes the code points of a symbol list into the front of `out`: each number in the set that the
+// numbers before it have led to.
 fn write_letters(symbols: &[u8], out: &mut [u32])
     requires { ⌜ length (walked letters before (now symbols)) ≤ length (now out) ⌝ }
     ensures { λ _. ⌜ now (out .exit) ≡ sets (now (out .entry)) 0 (walked letters before (now (symbols .entry))) ⌝ }
@@ -219,7 +227,8 @@ fn write_letters(symbols: &[u8], out: &mut [u32])
     }
 }
 
-// Writes the bytes of a symbol list into the front of `out`.
+// Writes the bytes of a symbol list into the front of `out`: each number in the set that the
+// numbers before it have led to.
 fn write_bytes(symbols: &[u8], out: &mut [u8])
     requires { ⌜ length (walked sent before (now symbols)) ≤ length (now out) ⌝ }
     ensures { λ _. ⌜ now (out .exit) ≡ sets (now (out .entry)) 0 (walked sent before (now (symbols .entry))) ⌝ }
@@ -235,26 +244,27 @@ fn write_bytes(symbols: &[u8], out: &mut [u8])
     }
 }
 
-// Symbol list to code points: the one input that encodes to it and has no Ź inside a pair. Refusals 10, 13, 5.
+// Spell: a symbol list to code points, the one input that encodes to it and has no Ź inside a pair.
+// Refusals 10, 13, 5.
 pub fn spell(symbols: &[u8], out: &mut [u32]) -> Answer
     ensures { λ r. ⌜ Gave (spell (length (now (out .entry))) (now (symbols .entry))) (numberOf r) (secondOf r) (now (out .entry)) (now (out .exit)) ⌝ }
 {
-    let v = fit(Way::Letters, symbols, out.len());
-    let Answer::Done(_) = v else {
-        return v;
+    let so_far = fit(Way::Letters, symbols, out.len());
+    let Answer::Done(_) = so_far else {
+        return so_far;
     };
     write_letters(symbols, out);
-    v
+    so_far
 }
 
-// Symbol list to the bytes that a scanner sends. Refusals 10, 13, 5.
+// Scan: a symbol list to the bytes that a scanner sends. Refusals 10, 13, 5.
 pub fn scan(symbols: &[u8], out: &mut [u8]) -> Answer
     ensures { λ r. ⌜ Gave (scan (length (now (out .entry))) (now (symbols .entry))) (numberOf r) (secondOf r) (now (out .entry)) (now (out .exit)) ⌝ }
 {
-    let v = fit(Way::Bytes, symbols, out.len());
-    let Answer::Done(_) = v else {
-        return v;
+    let so_far = fit(Way::Bytes, symbols, out.len());
+    let Answer::Done(_) = so_far else {
+        return so_far;
     };
     write_bytes(symbols, out);
-    v
+    so_far
 }

@@ -1,10 +1,10 @@
 -- `code128::checksum_value` meets its contract: a loop that sums number times weight.
 -- Assumes nothing.
-use Prim.Native.Nat.{_-_, _≤_, min}
+use Prim.Native.Nat.{ℕ, _-_, _*_, _<_, _≤_, min}
 use mathlib.Core.Path.{_≡_, sym, _∙_}
 use native.Mathlib.Omega.{arith}
 use borrow.Author.Needs.{needs}
-use lib.ListN.{length, take, length-take}
+use lib.ListN.{length, getD, take, length-take}
 use lib.Seq.{getD-take}
 use Rattle.code128.proofs.Sums.{Summing, summing-begin, summing-turn, summing-end, check-of-none, small}
 use Rattle.code128.proofs.checksum_value.Statement.{statement}
@@ -22,29 +22,40 @@ shorter-requires c κs = search needs
 returns : tie.Need-returns Inv-loop μ-loop
 returns c = sym (check-of-none _ (omega (arith, length-take 256 (c .before .before .before .args .symbols .now))))
 
-shared-slice-read-wide : tie.Need-shared-slice-read-wide Inv-loop μ-loop
-shared-slice-read-wide c = search needs
+shared-slice-read-sum : tie.Need-shared-slice-read-sum Inv-loop μ-loop
+shared-slice-read-sum c = search needs
 
-wide-requires : tie.Need-wide-requires Inv-loop μ-loop
-wide-requires c κs = search needs
+cast-sum : tie.Need-cast-sum Inv-loop μ-loop
+cast-sum c = omega (arith, c .shared-slice-known2 .given 0)
 
 loop-holds : tie.Need-loop-holds Inv-loop μ-loop
 loop-holds c =
-    let s = c .before .before .before .before .before .args .symbols .now in
-    let v = c .wide .ensures in
-    (omega arith, omega arith, omega arith, summing-begin (omega (arith, length-take 256 s)) (v .0 ∙ sym (getD-take 256 s 0 0 (omega arith))) (omega arith))
+    let s = c .before .before .before .before .args .symbols .now in
+    let v = c .shared-slice-known2 .given 0 in
+    (omega arith, omega arith, omega arith, summing-begin (omega (arith, length-take 256 s)) (sym (getD-take 256 s 0 0 (omega arith))) (omega arith))
 
-shared-slice-read-wide-2 : tie.Need-shared-slice-read-wide-2 Inv-loop μ-loop
-shared-slice-read-wide-2 c = search needs
+shared-slice-read-sum-2 : tie.Need-shared-slice-read-sum-2 Inv-loop μ-loop
+shared-slice-read-sum-2 c = search needs
 
-wide-requires-2 : tie.Need-wide-requires-2 Inv-loop μ-loop
-wide-requires-2 c κs = search needs
+-- the symbol of a turn is a byte, and its product with the weight is small
+module _ (p : tie.After-shared-slice-known3 Inv-loop μ-loop) where
+  abbrev number : ℕ
+  number = getD (p .before .before .before .before .before .before .before .args .symbols .now) (p .before .before .loop .i) 0
+
+  byte : number < 256
+  byte = omega (arith, p .shared-slice-known3 .given (p .before .before .loop .i))
+
+  product : p .before .before .loop .weight * number ≤ 65025
+  product = small (p .before .before .loop .weight) number (omega arith) (omega (arith, byte))
+
+cast-sum-2 : tie.Need-cast-sum-2 Inv-loop μ-loop
+cast-sum-2 c = omega (arith, byte c)
 
 mul-sum : tie.Need-mul-sum Inv-loop μ-loop
-mul-sum c = omega (arith, small (c .before .before .before .loop .weight) (c .wide2 .result) (omega arith) (omega (arith, c .wide2 .ensures)))
+mul-sum c = omega (arith, product c)
 
 add-sum : tie.Need-add-sum Inv-loop μ-loop
-add-sum c = omega (arith, small (c .before .before .before .loop .weight) (c .wide2 .result) (omega arith) (omega (arith, c .wide2 .ensures)))
+add-sum c = omega (arith, product c)
 
 add-weight : tie.Need-add-weight Inv-loop μ-loop
 add-weight c = search needs
@@ -57,19 +68,20 @@ loop-less c = search needs
 
 loop-again : tie.Need-loop-again Inv-loop μ-loop
 loop-again c =
-    let s = c .before .before .before .before .before .before .before .before .before .args .symbols .now in
-    let v = c .wide2 .ensures in (
+    let s = c .before .before .before .before .before .before .before .args .symbols .now in
+    let at-loop = c .before .before in
+    let v = byte c in (
       omega arith,
       omega arith,
       omega arith,
-      summing-turn (c .before .before .before .loop .inv .3) (c .before .before .before .loop .inv .2) (omega (arith, length-take 256 s)) (omega arith) (v .0 ∙ sym (getD-take 256 s (c .before .before .before .loop .i) 0 (omega arith))) (omega arith),
+      summing-turn (at-loop .loop .inv .3) (at-loop .loop .inv .2) (omega (arith, length-take 256 s)) (omega arith) (sym (getD-take 256 s (at-loop .loop .i) 0 (omega arith))) (omega arith),
     )
 
 cast-result : tie.Need-cast-result Inv-loop μ-loop
 cast-result c = search needs
 
 returns-2 : tie.Need-returns-2 Inv-loop μ-loop
-returns-2 c = summing-end (c .before .loop .inv .3) (omega (arith, length-take 256 (c .before .before .before .before .before .before .before .args .symbols .now)))
+returns-2 c = summing-end (c .before .loop .inv .3) (omega (arith, length-take 256 (c .before .before .before .before .before .before .args .symbols .now)))
 
 pub checksum-value-spec : {M : Type 1} → statement M
 checksum-value-spec =
@@ -79,11 +91,11 @@ checksum-value-spec =
     μ-loop
     shorter-requires
     returns
-    shared-slice-read-wide
-    wide-requires
+    shared-slice-read-sum
+    cast-sum
     loop-holds
-    shared-slice-read-wide-2
-    wide-requires-2
+    shared-slice-read-sum-2
+    cast-sum-2
     mul-sum
     add-sum
     add-weight

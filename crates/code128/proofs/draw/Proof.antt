@@ -1,7 +1,8 @@
--- `code128::draw` meets its contract: the tests of a list, and behind them the row.
+-- `code128::draw` meets its contract: the tests of a list, and after them the row.
 -- Assumes nothing.
 use Rattle.paper.specs.Jobs.{draw}
-use Rattle.helpers.proofs.Gives.{handed-on, told-refused, told-done, list-refused, list-passed, list-proper}
+use Rattle.helpers.proofs.Gives.{refused-on, said-done}
+use Rattle.shapes.proofs.Shaping.{list-refused, list-passed, list-proper}
 use borrow.Author.Needs.{needs}
 use Rattle.code128.proofs.draw.Statement.{statement}
 use Rattle.code128.proofs.draw.Tie as tie
@@ -19,11 +20,11 @@ returns : tie.Need-returns
 unfolding draw
 returns c =
     let v = c .before .before in
-    handed-on (c .enum-told2 .given .1) (list-refused _ _ _ _ _ (told-refused (c .enum-told2 .given .1) (v .vet .ensures)))
+    refused-on (c .enum-told2 .given .1) (v .vet .ensures) (list-refused _ _ _ _ _)
 
 write-row-requires : tie.Need-write-row-requires
 write-row-requires c κs =
-    list-proper _ _ (told-done (c .before .enum-told .given .1) (c .before .before .before .vet .ensures)) .0
+    list-proper _ _ (said-done (c .before .enum-told .given .1) (c .before .before .before .vet .ensures)) .0
 
 same-length : tie.Need-same-length
 same-length c = search needs
@@ -32,7 +33,7 @@ returns-2 : tie.Need-returns-2
 unfolding draw
 returns-2 c =
     let v = c .before .before .before .before .before .before in
-    rw (list-passed _ _ _ _ (told-done (c .before .before .before .before .enum-told .given .1) (v .vet .ensures))) (c .before .before .write-row .ensures)
+    rw (list-passed _ _ _ _ (said-done (c .before .before .before .before .enum-told .given .1) (v .vet .ensures))) (c .before .before .write-row .ensures)
 
 pub draw-spec : {M : Type 1} → statement M
 draw-spec =

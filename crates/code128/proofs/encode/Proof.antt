@@ -1,10 +1,11 @@
--- `code128::encode` meets its contract: where parsing stops, what is asked before; else the limit, and behind it the row.
+-- `code128::encode` meets its contract: where parsing stops, what is asked before; else the limit,
+-- and after it the row.
 -- Assumes nothing.
 use mathlib.Core.Path.{sym, _∙_}
 use native.Mathlib.Omega.{arith}
 use Rattle.helpers.specs.Numbers.{refusalNumber}
 use Rattle.helpers.specs.declared.Refusal.the-variants.{Symbols}
-use Rattle.helpers.proofs.Gives.{refused, told-on}
+use Rattle.helpers.proofs.Gives.{refused, handed-on}
 use Rattle.code128.proofs.Encodes.{encode-stops, encode-long, encode-fits}
 use borrow.Author.Needs.{needs}
 use Rattle.code128.proofs.encode.Statement.{statement}
@@ -48,7 +49,7 @@ write-row-requires c κs =
 returns-2 : tie.Need-returns-2
 returns-2 c =
     let p = c .before .before .before .before .before in
-    told-on _ (c .stopped .ensures ∙ sym (encode-stops _ _ _ (sym (p .parse .ensures .result) ∙ c .before .before .place .given .1)))
+    handed-on _ (c .stopped .ensures ∙ sym (encode-stops _ _ _ (sym (p .parse .ensures .result) ∙ c .before .before .place .given .1)))
 
 same-length : tie.Need-same-length
 same-length c = search needs

@@ -1,4 +1,5 @@
--- `code128::join_at` meets its contract: what is stored into the part between two places is stored from the first on.
+-- `code128::join_at` meets its contract: what is stored into the part between two places is stored
+-- from the first on.
 -- Assumes nothing.
 use native.Mathlib.Omega.{arith}
 use Rattle.helpers.proofs.Part.{part-stored}

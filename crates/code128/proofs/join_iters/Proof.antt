@@ -5,7 +5,7 @@ use mathlib.Core.Path.{ap, _∙_}
 use native.Mathlib.Omega.{arith}
 use borrow.Author.Needs.{needs}
 use lib.ListN.{length}
-use Rattle.paper.proofs.Answering.{each-at}
+use Rattle.helpers.proofs.Answering.{each-at}
 use Rattle.paper.proofs.Cells.{Number}
 use Rattle.code128.proofs.Rows.{length-words}
 use Rattle.code128.proofs.Joins.{Joining, joining-begin, joining-turn, joining-end, part-pattern}
@@ -19,19 +19,19 @@ abbrev μ-loop : tie.MeasureT-loop
 μ-loop out₀ table four symbols i₀ out i = length symbols - i
 
 -- the symbol of a turn is a number of the table
-small : (p : tie.After-place Inv-loop μ-loop) → p .place .result < 106
+small : (p : tie.After-wide Inv-loop μ-loop) → p .wide .result < 106
 small p =
     let start = p .before .before .before .before .before .before .before .before in
-    omega (arith, p .place .ensures, each-at Number (start .args .symbols .now) (p .before .before .before .loop .i) 0 (start .pre .2) (omega arith))
+    omega (arith, p .wide .ensures, each-at Number (start .args .symbols .now) (p .before .before .before .loop .i) 0 (start .pre .2) (omega arith))
 
 loop-holds : tie.Need-loop-holds Inv-loop μ-loop
 loop-holds c = joining-begin
 
-shared-slice-read-place : tie.Need-shared-slice-read-place Inv-loop μ-loop
-shared-slice-read-place c = search needs
+shared-slice-read-wide : tie.Need-shared-slice-read-wide Inv-loop μ-loop
+shared-slice-read-wide c = search needs
 
-place-requires : tie.Need-place-requires Inv-loop μ-loop
-place-requires c κs = search needs
+wide-requires : tie.Need-wide-requires Inv-loop μ-loop
+wide-requires c κs = search needs
 
 mul-at : tie.Need-mul-at Inv-loop μ-loop
 mul-at c = search needs
@@ -67,11 +67,11 @@ loop-less c = search needs
 
 loop-again : tie.Need-loop-again Inv-loop μ-loop
 loop-again c =
-    let at-place = c .before .before .before .before .before in
-    let inv = at-place .before .before .before .loop .inv in
+    let at-wide = c .before .before .before .before .before in
+    let inv = at-wide .before .before .before .loop .inv in
     let start = c .before .before .before .before .before .before .before .before .before .before .before .before .before in
-    joining-turn inv _ (omega arith) (omega (arith, small at-place, at-place .place .ensures))
-    (part-pattern (start .pre .0) _ _ _ _ _ _ (at-place .place .ensures) (small at-place) (omega arith) (omega (arith, inv .writes .long)) (c .before .before .spread .ensures))
+    joining-turn inv _ (omega arith) (omega (arith, small at-wide, at-wide .wide .ensures))
+    (part-pattern (start .pre .0) _ _ _ _ _ _ (at-wide .wide .ensures .0) (small at-wide) (omega arith) (omega (arith, inv .writes .long)) (c .before .before .spread .ensures))
 
 same-length : tie.Need-same-length Inv-loop μ-loop
 same-length c = search needs
@@ -86,8 +86,8 @@ join-iters-spec =
     Inv-loop
     μ-loop
     loop-holds
-    shared-slice-read-place
-    place-requires
+    shared-slice-read-wide
+    wide-requires
     mul-at
     add-end
     sub-spread

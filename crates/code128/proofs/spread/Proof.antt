@@ -1,6 +1,6 @@
 -- `code128::spread` meets its contract: three parts, each from one entry of the table.
 -- Assumes nothing.
-use mathlib.Core.Path.{ap, _∙_}
+use mathlib.Core.Path.{refl, ap, _∙_}
 use native.Mathlib.Omega.{arith}
 use lib.ListN.{length}
 use Rattle.code128.proofs.Rows.{length-quads}
@@ -8,9 +8,6 @@ use Rattle.code128.proofs.Joins.{part-bytes, spread-stored}
 use borrow.Author.Needs.{needs}
 use Rattle.code128.proofs.spread.Statement.{statement}
 use Rattle.code128.proofs.spread.Tie as tie
-
-wider-requires : tie.Need-wider-requires
-wider-requires c κs = search needs
 
 sub-put-bytes : tie.Need-sub-put-bytes
 sub-put-bytes c = search needs
@@ -25,7 +22,7 @@ mul-put-bytes : tie.Need-mul-put-bytes
 mul-put-bytes c = search needs
 
 shared-slice-read-put-bytes : tie.Need-shared-slice-read-put-bytes
-shared-slice-read-put-bytes c = omega (arith, ap length (c .before .before .before .before .before .pre .1) ∙ length-quads)
+shared-slice-read-put-bytes c = omega (arith, ap length (c .before .before .before .before .pre .1) ∙ length-quads)
 
 put-bytes-requires : tie.Need-put-bytes-requires
 put-bytes-requires c κs = search needs
@@ -43,7 +40,7 @@ mul-put-bytes-2 : tie.Need-mul-put-bytes-2
 mul-put-bytes-2 c = search needs
 
 shared-slice-read-put-bytes-2 : tie.Need-shared-slice-read-put-bytes-2
-shared-slice-read-put-bytes-2 c = omega (arith, ap length (c .before .before .before .before .before .before .before .before .before .before .pre .1) ∙ length-quads)
+shared-slice-read-put-bytes-2 c = omega (arith, ap length (c .before .before .before .before .before .before .before .before .before .pre .1) ∙ length-quads)
 
 put-bytes-requires-2 : tie.Need-put-bytes-requires-2
 put-bytes-requires-2 c κs = search needs
@@ -64,7 +61,7 @@ mul-put-bytes-4 : tie.Need-mul-put-bytes-4
 mul-put-bytes-4 c = search needs
 
 shared-slice-read-put-bytes-3 : tie.Need-shared-slice-read-put-bytes-3
-shared-slice-read-put-bytes-3 c = omega (arith, ap length (c .before .before .before .before .before .before .before .before .before .before .before .before .before .before .before .pre .1) ∙ length-quads)
+shared-slice-read-put-bytes-3 c = omega (arith, ap length (c .before .before .before .before .before .before .before .before .before .before .before .before .before .before .pre .1) ∙ length-quads)
 
 put-bytes-requires-3 : tie.Need-put-bytes-requires-3
 put-bytes-requires-3 c κs = search needs
@@ -77,8 +74,8 @@ returns c =
     let third = c .before .before in
     let second = third .before .before .before .before .before in
     let first = second .before .before .before .before .before in
-    let start = first .before .before .before .before .before .before in
-    spread-stored (start .pre .1) _ _ _ _ _ _ (first .before .before .before .wider .ensures)
+    let start = first .before .before .before .before .before in
+    spread-stored (start .pre .1) _ _ _ _ _ _ refl
     (part-bytes _ _ _ 0 4 4 (omega arith) (omega arith) (omega arith) (first .put-bytes .ensures))
     (part-bytes _ _ _ 4 8 4 (omega arith) (omega arith) (omega arith) (second .put-bytes2 .ensures))
     (part-bytes _ _ _ 8 11 3 (omega arith) (omega arith) (omega arith) (third .put-bytes3 .ensures))
@@ -87,7 +84,6 @@ pub spread-spec : {M : Type 1} → statement M
 spread-spec =
     tie.close
     (tie.spec
-    wider-requires
     sub-put-bytes
     part-put-bytes-start
     part-put-bytes-end

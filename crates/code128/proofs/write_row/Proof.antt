@@ -1,4 +1,5 @@
--- `code128::write_row` meets its contract: too little room, or the four parts of the row stored one behind the other.
+-- `code128::write_row` meets its contract: too little room, or the four parts of the row stored one
+-- after the other.
 -- Assumes nothing.
 use Prim.Native.Nat.{_<_}
 use mathlib.Core.Path.{_≡_, ap, _∙_}
@@ -7,12 +8,12 @@ use lib.ListN.{length}
 use lib.Seq.{take-all}
 use Rattle.paper.specs.Iso15417.{row, check}
 use Rattle.paper.specs.Jobs.{most}
-use Rattle.paper.proofs.Answering.{into-room}
+use Rattle.helpers.proofs.Answering.{into-room, into-short}
 use Rattle.paper.proofs.Cells.{length-row, check-small}
 use Rattle.helpers.specs.declared.Refusal.the-variants.{Room}
 use Rattle.helpers.specs.Numbers.{refusalNumber}
 use Rattle.helpers.proofs.Gives.{refused, stored}
-use Rattle.code128.proofs.Rows.{length-words, payload-numbers, row-stored, into-short}
+use Rattle.code128.proofs.Rows.{length-words, payload-numbers, row-stored}
 use Rattle.code128.proofs.Joins.{part-pattern}
 use borrow.Author.Needs.{needs}
 use Rattle.code128.proofs.write_row.Statement.{statement}
@@ -36,14 +37,14 @@ returns c =
 
 -- the number that the sum gives is the check of the list
 module _ (p : tie.After-checksum-value) where
-  told : p .checksum-value .result ≡ check (p .before .before .before .before .before .before .args .symbols .now)
+  right : p .checksum-value .result ≡ check (p .before .before .before .before .before .before .args .symbols .now)
   unfolding most
-  told =
+  right =
       let start = p .before .before .before .before .before .before in
       p .checksum-value .ensures ∙ ap check (take-all 256 (start .args .symbols .now) (omega (arith, start .pre .size)))
 
   small : p .checksum-value .result < 106
-  small = omega (arith, told, check-small (p .before .before .before .before .before .before .args .symbols .now))
+  small = omega (arith, right, check-small (p .before .before .before .before .before .before .args .symbols .now))
 
 words-requires : tie.Need-words-requires
 words-requires c κs = search needs
@@ -126,7 +127,7 @@ returns-2 c =
     let long = length-row s (start .pre) in
     stored (length s) (row s) (into-room _ (length s) (row s) (omega arith)) (omega arith)
     (row-stored s (start .pre) _ _ _ _ _ (payload .join-iters .ensures)
-    (part-pattern (sum .before .before .words .ensures) _ _ _ _ _ _ (told sum) (small sum) (omega arith) (omega arith) (first .spread .ensures))
+    (part-pattern (sum .before .before .words .ensures) _ _ _ _ _ _ (right sum) (small sum) (omega arith) (omega arith) (first .spread .ensures))
     (second .join-at .ensures) (third .join-at2 .ensures))
 
 pub write-row-spec : {M : Type 1} → statement M

@@ -1,4 +1,5 @@
--- `helpers::join_slices` meets its contract: one store a turn, as far as the shorter of the two reaches.
+-- `helpers::join_slices` meets its contract: one store a turn, as far as the shorter of the two
+-- reaches.
 -- Assumes nothing.
 use Prim.Native.Nat.{_-_, _≤_, min}
 use mathlib.Core.Path.{_≡_, refl}

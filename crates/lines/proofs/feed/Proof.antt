@@ -6,15 +6,16 @@ use native.Mathlib.Omega.{arith}
 use borrow.Author.Needs.{needs}
 use borrow.Rule.Slice.PartMut.{mid-len}
 use lib.ListN.{length}
-use Rattle.lines.proofs.Feeds.{Feeding, feeding-begin, feeding-turn, feeding-last, feeding-done, feeding-full, wrote-within, answered}
+use Rattle.line.proofs.Texts.{wrote-within}
+use Rattle.lines.proofs.Feeds.{Feeding, feeding-begin, feeding-turn, feeding-last, feeding-done, feeding-full, answered}
 use Rattle.lines.proofs.feed.Statement.{statement}
 use Rattle.lines.proofs.feed.Tie as tie
 
 abbrev Inv-loop : tie.InvT-loop
-Inv-loop chunk at line₀ len out₀ used i₀ n₀ u₀ line out i n u = Feeding chunk at line₀ len out₀ used i line n out u
+Inv-loop chunk from line₀ filled out₀ stored at₀ len₀ used₀ line out at len used = Feeding chunk from line₀ filled out₀ stored at line len out used
 
 abbrev μ-loop : tie.MeasureT-loop
-μ-loop chunk at line₀ len out₀ used i₀ n₀ u₀ line out i n u = length chunk - i
+μ-loop chunk from line₀ filled out₀ stored at₀ len₀ used₀ line out at len used = length chunk - at
 
 shorter-requires : tie.Need-shorter-requires Inv-loop μ-loop
 shorter-requires c κs = search needs
@@ -76,12 +77,12 @@ part-answer-line-end-2 c = search needs
 answer-line-requires : tie.Need-answer-line-requires Inv-loop μ-loop
 answer-line-requires c κs = search needs
 
-add-u : tie.Need-add-u Inv-loop μ-loop
-add-u c = let at = c .before .before .before .before .before .before .before .before .before .before .before .before .before .before .loop in
-    omega (arith, wrote-within (c .before .before .answer-line .ensures), mid-len (at .u) (length (at .out)) (at .out) (omega arith))
+add-used : tie.Need-add-used Inv-loop μ-loop
+add-used c = let at = c .before .before .before .before .before .before .before .before .before .before .before .before .before .before .loop in
+    omega (arith, wrote-within (c .before .before .answer-line .ensures), mid-len (at .used) (length (at .out)) (at .out) (omega arith))
 
-add-i : tie.Need-add-i Inv-loop μ-loop
-add-i c = search needs
+add-at : tie.Need-add-at Inv-loop μ-loop
+add-at c = search needs
 
 loop-less : tie.Need-loop-less Inv-loop μ-loop
 loop-less c = search needs
@@ -126,8 +127,8 @@ feed-spec =
     part-answer-line-start-2
     part-answer-line-end-2
     answer-line-requires
-    add-u
-    add-i
+    add-used
+    add-at
     loop-less
     loop-again
     same-length-7

@@ -1,9 +1,9 @@
--- `lines::finish` meets its contract: the buffer tells what the line gives.
+-- `lines::finish` meets its contract: the buffer says what the line gives.
 -- Assumes nothing.
-use native.Mathlib.Nat.{sub-zero}
 use native.Mathlib.Omega.{arith}
 use borrow.Author.Needs.{needs}
-use Rattle.lines.proofs.Feeds.{wrote-within, finish-none, finish-line}
+use Rattle.line.proofs.Texts.{wrote-within}
+use Rattle.lines.proofs.Feeds.{finish-none, finish-line}
 use Rattle.lines.proofs.finish.Statement.{statement}
 use Rattle.lines.proofs.finish.Tie as tie
 
@@ -30,7 +30,7 @@ same-length c = search needs
 
 returns-2 : tie.Need-returns-2
 returns-2 c = let w = c .before .before .answer-line .ensures in
-    (λ cur h. finish-line (c .before .before .before .before .before .before .shorter .ensures) (omega arith) (rw sub-zero at w) h, wrote-within w)
+    (λ cur h. finish-line (c .before .before .before .before .before .before .shorter .ensures) (omega arith) w h, wrote-within w)
 
 pub finish-spec : {M : Type 1} → statement M
 finish-spec =

@@ -1,4 +1,4 @@
--- `reader::blocks` meets its contract: one block a turn, looked up once.
+-- `reader::blocks` meets its contract: one block a turn, lookOf up once.
 -- Assumes nothing.
 use Prim.Native.Nat.{_-_}
 use mathlib.Core.Path.{sym, _∙_}
@@ -6,8 +6,8 @@ use native.Mathlib.Omega.{arith}
 use borrow.Author.Needs.{needs}
 use borrow.Author.Tests.{not-true, not-false}
 use Rattle.helpers.specs.Numbers.{refusalNumber}
-use Rattle.reader.specs.Parts.{walked}
-use Rattle.reader.proofs.Walks.{looked-nothing, looked-symbol, Walking, walk-begin, walk-unknown, walk-misfit, walk-turn, walk-end}
+use Rattle.reader.specs.Parts.{walkOf}
+use Rattle.reader.proofs.Walks.{look-nothing, look-symbol, Walking, walk-begin, walk-unknown, walk-misfit, walk-turn, walk-end}
 use Rattle.reader.proofs.blocks.Statement.{statement}
 use Rattle.reader.proofs.blocks.Tie as tie
 
@@ -42,10 +42,10 @@ same-length : tie.Need-same-length Inv-loop μ-loop
 same-length c = search needs
 
 returns : tie.Need-returns Inv-loop μ-loop
-unfolding walked refusalNumber
+unfolding walkOf refusalNumber
 returns c =
     let at-find = c .before .before in
-    walk-unknown (at-find .before .before .before .loop .inv) (omega arith) (looked-nothing (c .enum-told .given .1) (at-find .find .ensures))
+    walk-unknown (at-find .before .before .before .loop .inv) (omega arith) (look-nothing (c .enum-told .given .1) (at-find .find .ensures))
 
 fits-requires : tie.Need-fits-requires Inv-loop μ-loop
 fits-requires c κs = search needs
@@ -54,11 +54,11 @@ same-length-2 : tie.Need-same-length-2 Inv-loop μ-loop
 same-length-2 c = search needs
 
 returns-2 : tie.Need-returns-2 Inv-loop μ-loop
-unfolding walked refusalNumber
+unfolding walkOf refusalNumber
 returns-2 c =
     let at-m = c .before .before .before in
     let at-find = at-m .before .before in
-    walk-misfit (at-find .before .before .before .loop .inv) _ (looked-symbol (at-m .m .given .1) (at-find .find .ensures)) (omega arith)
+    walk-misfit (at-find .before .before .before .loop .inv) _ (look-symbol (at-m .m .given .1) (at-find .find .ensures)) (omega arith)
     (sym (c .before .fits2 .ensures) ∙ not-true _ (c .if1 .taken))
 
 slice-write-list : tie.Need-slice-write-list Inv-loop μ-loop
@@ -74,14 +74,14 @@ loop-again : tie.Need-loop-again Inv-loop μ-loop
 loop-again c =
     let at-m = c .before .before .before in
     let at-find = at-m .before .before in
-    walk-turn (at-find .before .before .before .loop .inv) _ (looked-symbol (at-m .m .given .1) (at-find .find .ensures)) (omega arith) (omega arith)
+    walk-turn (at-find .before .before .before .loop .inv) _ (look-symbol (at-m .m .given .1) (at-find .find .ensures)) (omega arith) (omega arith)
     (sym (c .before .fits2 .ensures) ∙ not-false _ (c .if1 .left))
 
 same-length-3 : tie.Need-same-length-3 Inv-loop μ-loop
 same-length-3 c = search needs
 
 returns-3 : tie.Need-returns-3 Inv-loop μ-loop
-unfolding walked
+unfolding walkOf
 returns-3 c = walk-end (c .before .loop .inv) (omega arith)
 
 pub blocks-spec : {M : Type 1} → statement M

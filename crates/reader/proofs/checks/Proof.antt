@@ -1,7 +1,9 @@
--- `reader::checks` meets its contract: the check of a list's front, held against the number behind it.
+-- `reader::checks` meets its contract: the check of a list's front, held against the number after
+-- it.
 -- Assumes nothing.
 use native.Mathlib.Omega.{arith}
-use Rattle.helpers.specs.Numbers.{refusalNumber, tells}
+use Rattle.helpers.specs.Numbers.{refusalNumber}
+use Rattle.helpers.specs.Contracts.{answers}
 use Rattle.reader.proofs.Judges.{check-wrong, check-right}
 use borrow.Author.Needs.{needs}
 use Rattle.reader.proofs.checks.Statement.{statement}
@@ -26,13 +28,13 @@ cast-t13 : tie.Need-cast-t13
 cast-t13 c = search needs
 
 returns : tie.Need-returns
-unfolding tells refusalNumber
+unfolding answers refusalNumber
 returns c =
     let start = c .before .before .before .before .before in
     check-wrong (start .args .list .now) (start .args .n) _ (omega arith) (c .before .checksum-value .ensures) _ (c .if1 .taken)
 
 returns-2 : tie.Need-returns-2
-unfolding tells
+unfolding answers
 returns-2 c =
     let start = c .before .before .before .before .before in
     check-right (start .args .list .now) (start .args .n) _ (omega arith) (c .before .checksum-value .ensures) _ (c .if1 .left)

@@ -3,7 +3,7 @@
 use Prim.Native.Nat.{_-_, _*_}
 use native.Mathlib.Omega.{arith}
 use borrow.Author.Needs.{needs}
-use Rattle.reader.specs.Parts.{looked}
+use Rattle.reader.specs.Parts.{lookOf}
 use Rattle.reader.proofs.Finds.{part, in-table, Matching, match-begin, match-turn, match-not, match-end, Hunting, hunt-begin, hunt-turn, hunt-hit, hunt-end}
 use Rattle.reader.proofs.find.Statement.{statement}
 use Rattle.reader.proofs.find.Tie as tie
@@ -71,11 +71,11 @@ search-again c =
     hunt-turn (at-pattern .search .inv) table-is (omega arith) (match-not (at-cell .cells .inv) (in-table table-is (omega arith)) (omega arith) (omega arith) (c .if3 .taken))
 
 returns : tie.Need-returns Inv-cells μ-cells Inv-search μ-search
-unfolding looked
+unfolding lookOf
 returns c = hunt-end (c .before .search .inv) (omega arith)
 
 returns-2 : tie.Need-returns-2 Inv-cells μ-cells Inv-search μ-search
-unfolding looked
+unfolding lookOf
 returns-2 c =
     let at-cell = c .before in
     let at-pattern = at-cell .before .before in

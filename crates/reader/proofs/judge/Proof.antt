@@ -1,27 +1,28 @@
--- `reader::judge` meets its contract: one part behind the other, each refusal handed on.
+-- `reader::judge` meets its contract: one part after the other, each refusal handed on.
 -- Assumes nothing.
 use Prim.Native.Nat.{ℕ}
 use mathlib.Core.Path.{_≡_}
 use mathlib.Core.List.{List, []}
 use native.Mathlib.Omega.{arith}
-use Rattle.paper.specs.Answers.{accept}
-use Rattle.helpers.specs.Vetted.{shaped}
-use Rattle.helpers.proofs.Gives.{told-done, Shaped, row-proper}
+use Rattle.helpers.specs.Answers.{accept}
+use Rattle.helpers.proofs.Gives.{said-done}
+use Rattle.shapes.specs.Vetted.{shaped}
+use Rattle.shapes.proofs.Shaping.{Shaped, row-proper}
 use Rattle.reader.proofs.Judges.{judge-shape, judge-blocks, judge-stop, judge-check}
 use borrow.Author.Needs.{needs}
 use Rattle.reader.proofs.judge.Statement.{statement}
 use Rattle.reader.proofs.judge.Tie as tie
 
--- what an accepted shape tells
-module _ (h : tie.After-shape2) where
+-- what follows from an accepted shape
+module _ (h : tie.After-so-far) where
   abbrev row : List ℕ
   row = h .before .before .before .before .before .args .row .now
 
   abbrev n : ℕ
-  n = h .shape2 .given .0 .0
+  n = h .so-far .given .0 .0
 
   accepted : shaped row ≡ accept n []
-  accepted = told-done (h .shape2 .given .1) (h .before .before .shape .ensures)
+  accepted = said-done (h .so-far .given .1) (h .before .before .shape .ensures)
 
   proper : Shaped row n
   proper = row-proper row n accepted
@@ -29,8 +30,8 @@ module _ (h : tie.After-shape2) where
 shape-requires : tie.Need-shape-requires
 shape-requires c κs = search needs
 
-enum-known-shape : tie.Need-enum-known-shape
-enum-known-shape c = search needs
+enum-known-so-far : tie.Need-enum-known-so-far
+enum-known-so-far c = search needs
 
 enum-told : tie.Need-enum-told
 enum-told c = search needs
@@ -61,12 +62,6 @@ returns-2 c =
 stops-requires : tie.Need-stops-requires
 stops-requires c κs = omega (arith, proper (c .before .before .before .before .before .before .before))
 
-checks-requires : tie.Need-checks-requires
-checks-requires c κs =
-    let at-blocks = c .before .before .before .before .before .before in
-    let p = proper (at-blocks .before .before .before) in
-    (omega (arith, at-blocks .blocks2 .kept), omega arith)
-
 enum-told-4 : tie.Need-enum-told-4
 enum-told-4 c = search needs
 
@@ -78,9 +73,15 @@ same-length-2 c = search needs
 
 returns-3 : tie.Need-returns-3
 returns-3 c =
-    let at-stops = c .before .before .before .before in
+    let at-stops = c .before .before in
     let at-blocks = at-stops .before .before .before .before .before in
     judge-stop _ (accepted (at-blocks .before .before .before)) _ (at-stops .before .enum-told2 .given .1) (at-blocks .blocks2 .ensures) _ (at-stops .stops .ensures) (c .enum-told5 .given .1)
+
+checks-requires : tie.Need-checks-requires
+checks-requires c κs =
+    let at-blocks = c .before .before .before .before .before .before .before .before in
+    let p = proper (at-blocks .before .before .before) in
+    (omega (arith, at-blocks .blocks2 .kept), omega arith)
 
 same-length-3 : tie.Need-same-length-3
 same-length-3 c = search needs
@@ -89,14 +90,14 @@ returns-4 : tie.Need-returns-4
 returns-4 c =
     let at-stops = c .before .before .before .before in
     let at-blocks = at-stops .before .before .before .before .before in
-    judge-check _ (accepted (at-blocks .before .before .before)) _ (at-stops .before .enum-told2 .given .1) (at-blocks .blocks2 .ensures) _ (at-stops .stops .ensures) _ (c .enum-told4 .given .1) (c .before .before .checks .ensures)
+    judge-check _ (accepted (at-blocks .before .before .before)) _ (at-stops .before .enum-told2 .given .1) (at-blocks .blocks2 .ensures) _ (at-stops .stops .ensures) _ (c .before .before .enum-told4 .given .1) (c .checks .ensures)
 
 pub judge-spec : {M : Type 1} → statement M
 judge-spec =
     tie.close
     (tie.spec
     shape-requires
-    enum-known-shape
+    enum-known-so-far
     enum-told
     returns
     add-blocks
@@ -106,10 +107,10 @@ judge-spec =
     same-length
     returns-2
     stops-requires
-    checks-requires
     enum-told-4
     enum-told-5
     same-length-2
     returns-3
+    checks-requires
     same-length-3
     returns-4)

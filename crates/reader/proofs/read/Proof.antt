@@ -3,7 +3,7 @@
 use native.Mathlib.Omega.{arith}
 use Rattle.helpers.specs.declared.Refusal.the-variants.{Room}
 use Rattle.helpers.specs.Numbers.{refusalNumber}
-use Rattle.helpers.proofs.Gives.{refused, handed-on}
+use Rattle.helpers.proofs.Gives.{refused}
 use Rattle.reader.proofs.Judges.{read-refused, read-front, read-short, read-stored}
 use borrow.Author.Needs.{needs}
 use Rattle.reader.proofs.read.Statement.{statement}
@@ -15,22 +15,22 @@ slice-aggregate-judge c = search needs
 judge-requires : tie.Need-judge-requires
 judge-requires c κs = search needs
 
-enum-known-answer : tie.Need-enum-known-answer
-enum-known-answer c = search needs
+enum-known-so-far : tie.Need-enum-known-so-far
+enum-known-so-far c = search needs
 
 enum-told : tie.Need-enum-told
 enum-told c = search needs
 
 returns : tie.Need-returns
 returns c =
-    let told = c .enum-told .given .1 in
-    handed-on told (read-refused (c .before .before .before .judge .ensures) _ told)
+    let refusal = c .enum-told .given .1 in
+    rw refusal (refused _ _ (read-refused (c .before .before .before .judge .ensures) _ refusal))
 
 returns-2 : tie.Need-returns-2
 unfolding refusalNumber
 returns-2 c =
-    let at-answer = c .before .before in
-    refused Room _ (read-short (at-answer .before .before .before .judge .ensures) (at-answer .answer .given .1) _ (c .if1 .taken))
+    let passed = c .before .before in
+    refused Room _ (read-short (passed .before .before .before .judge .ensures) (passed .so-far .given .1) _ (c .if1 .taken))
 
 sub-join-slices : tie.Need-sub-join-slices
 sub-join-slices c = search needs
@@ -40,8 +40,8 @@ part-join-slices-start c = search needs
 
 part-join-slices-end : tie.Need-part-join-slices-end
 part-join-slices-end c =
-    let at-answer = c .before .before .before .before in
-    omega (arith, read-front (at-answer .before .before .before .judge .ensures) (at-answer .answer .given .1))
+    let passed = c .before .before .before .before in
+    omega (arith, read-front (passed .before .before .before .judge .ensures) (passed .so-far .given .1))
 
 join-slices-requires : tie.Need-join-slices-requires
 join-slices-requires c κs = search needs
@@ -52,8 +52,8 @@ same-length c = search needs
 returns-3 : tie.Need-returns-3
 returns-3 c =
     let at-join = c .before .before in
-    let at-answer = at-join .before .before .before .before .before .before in
-    read-stored (at-answer .before .before .before .judge .ensures) (at-answer .answer .given .1) _ _ (omega arith) (at-join .join-slices .ensures)
+    let passed = at-join .before .before .before .before .before .before in
+    read-stored (passed .before .before .before .judge .ensures) (passed .so-far .given .1) _ _ (omega arith) (at-join .join-slices .ensures)
 
 pub read-spec : {M : Type 1} → statement M
 read-spec =
@@ -61,7 +61,7 @@ read-spec =
     (tie.spec
     slice-aggregate-judge
     judge-requires
-    enum-known-answer
+    enum-known-so-far
     enum-told
     returns
     returns-2

@@ -6,31 +6,34 @@ use mathlib.Core.List.{[]}
 use native.Mathlib.Omega.{arith}
 use borrow.Author.Needs.{needs}
 use lib.ListN.{length, length-set}
-use Rattle.paper.specs.Answers.{accept}
-use Rattle.paper.proofs.Bytes.{length-bytes}
+use Rattle.helpers.specs.Answers.{accept}
 use Rattle.helpers.specs.Numbers.{refusalNumber}
-use Rattle.helpers.specs.Vetted.{shaped}
 use Rattle.helpers.specs.declared.Refusal.the-variants.{Room}
-use Rattle.helpers.proofs.Gives.{refused, stored, handed-on, told-refused, told-done, row-proper}
-use Rattle.record.proofs.Answering.{pack-refused, pack-room, pack-done}
+use Rattle.helpers.proofs.Gives.{refused, refused-on, stored, said-done}
+use Rattle.paper.specs.Jobs.{pack}
+use Rattle.paper.proofs.Bytes.{length-bytes}
+use Rattle.shapes.specs.Vetted.{shaped}
+use Rattle.shapes.proofs.Shaping.{row-refused, row-proper}
+use Rattle.record.proofs.Answering.{pack-room, pack-done}
 use Rattle.record.proofs.pack.Statement.{statement}
 use Rattle.record.proofs.pack.Tie as tie
 
--- what is known of the row behind the tests
-known : (v : tie.After-shaped) → shaped (v .before .before .before .before .before .args .row .now) ≡ accept (v .shaped .given .0 .0) []
-known v = told-done (v .shaped .given .1) (v .before .before .shape .ensures)
+-- what is known of the row after the tests
+known : (v : tie.After-so-far) → shaped (v .before .before .before .before .before .args .row .now) ≡ accept (v .so-far .given .0 .0) []
+known v = said-done (v .so-far .given .1) (v .before .before .shape .ensures)
 
 shape-requires : tie.Need-shape-requires
 shape-requires c κs = search needs
 
-enum-known-shaped : tie.Need-enum-known-shaped
-enum-known-shaped c = search needs
+enum-known-so-far : tie.Need-enum-known-so-far
+enum-known-so-far c = search needs
 
 enum-told : tie.Need-enum-told
 enum-told c = search needs
 
 returns : tie.Need-returns
-returns c = handed-on (c .enum-told .given .1) (pack-refused _ _ _ _ (told-refused (c .enum-told .given .1) (c .before .before .shape .ensures)))
+unfolding pack
+returns c = refused-on (c .enum-told .given .1) (c .before .before .shape .ensures) (row-refused _ _ _ _ _)
 
 add-needed : tie.Need-add-needed
 add-needed c = search needs
@@ -67,7 +70,7 @@ pack-spec =
     tie.close
     (tie.spec
     shape-requires
-    enum-known-shaped
+    enum-known-so-far
     enum-told
     returns
     add-needed

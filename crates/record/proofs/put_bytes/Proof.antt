@@ -1,4 +1,4 @@
--- `record::put_bytes` meets its contract: a byte a turn, and the last one where cells are left for it.
+-- `record::put_bytes` meets its contract: a byte a turn, and a last one where cells are left.
 -- Assumes nothing.
 use Prim.Native.Nat.{_+_, _-_, _*_, _/_, _≤_}
 use mathlib.Core.Path.{_≡_}

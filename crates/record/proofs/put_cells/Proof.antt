@@ -1,4 +1,4 @@
--- `record::put_cells` meets its contract: the cells of a byte a turn, and those of the last byte that are left.
+-- `record::put_cells` meets its contract: the cells of a byte a turn, and what is left of the last.
 -- Assumes nothing.
 use Prim.Native.Nat.{_-_, _/_, _≤_}
 use mathlib.Core.Path.{_≡_}

@@ -2,7 +2,7 @@
 -- Assumes nothing.
 use borrow.Author.Needs.{needs}
 use native.Mathlib.Omega.{arith}
-use Rattle.record.specs.Lowest.{lowest}
+use Rattle.record.proofs.Lowest.{lowest}
 use Rattle.record.proofs.Spares.{lowest-some, spare-bits}
 use Rattle.record.proofs.spare_clear.Statement.{statement}
 use Rattle.record.proofs.spare_clear.Tie as tie

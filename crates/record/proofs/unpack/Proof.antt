@@ -1,33 +1,37 @@
 -- `record::unpack` meets its contract: the tests of a record, the room, the cells.
 -- Assumes nothing.
+use mathlib.Core.Path.{sym, _∙_}
 use native.Mathlib.Omega.{arith}
 use borrow.Author.Needs.{needs}
 use Rattle.helpers.specs.Numbers.{refusalNumber}
 use Rattle.helpers.specs.declared.Refusal.the-variants.{Room}
-use Rattle.helpers.proofs.Gives.{refused, stored, handed-on, told-refused, told-done}
-use Rattle.record.proofs.Answering.{Passed, tested-passed, unpack-refused, unpack-room, unpack-done}
+use Rattle.helpers.proofs.Answering.{into-room, into-short}
+use Rattle.helpers.proofs.Gives.{refused, refused-on, stored, said-done}
+use Rattle.record.proofs.Answering.{Passed, tested-passed, unpack-refused}
 use Rattle.record.proofs.unpack.Statement.{statement}
 use Rattle.record.proofs.unpack.Tie as tie
 
--- what is known of the record behind the tests
-known : (v : tie.After-tested) → Passed (v .before .before .before .before .before .args .«record» .now) (v .tested .given .0 .0)
-known v = tested-passed _ _ (told-done (v .tested .given .1) (v .before .before .test .ensures))
+-- what is known of the record after the tests
+known : (v : tie.After-so-far) → Passed (v .before .before .before .before .before .args .«record» .now) (v .so-far .given .0 .0)
+known v = tested-passed _ _ (said-done (v .so-far .given .1) (v .before .before .test .ensures))
 
 test-requires : tie.Need-test-requires
 test-requires c κs = search needs
 
-enum-known-tested : tie.Need-enum-known-tested
-enum-known-tested c = search needs
+enum-known-so-far : tie.Need-enum-known-so-far
+enum-known-so-far c = search needs
 
 enum-told : tie.Need-enum-told
 enum-told c = search needs
 
 returns : tie.Need-returns
-returns c = handed-on (c .enum-told .given .1) (unpack-refused _ _ _ _ (told-refused (c .enum-told .given .1) (c .before .before .test .ensures)))
+returns c = refused-on (c .enum-told .given .1) (c .before .before .test .ensures) (unpack-refused _ _ _ _)
 
 returns-2 : tie.Need-returns-2
 unfolding refusalNumber
-returns-2 c = refused Room _ (unpack-room _ _ _ (known (c .before .before)) (omega arith))
+returns-2 c =
+    let p = known (c .before .before) in
+    refused Room _ (p .answer _ ∙ into-short _ _ _ _ (omega arith) (sym (p .long)))
 
 sub-put-cells : tie.Need-sub-put-cells
 sub-put-cells c = known (c .before .before) .headed
@@ -47,14 +51,14 @@ same-length c = search needs
 returns-3 : tie.Need-returns-3
 returns-3 c =
     let p = known (c .before .before .before .before .before .before .before) in
-    stored _ _ (unpack-done _ _ _ p (omega arith)) (omega arith) (c .before .before .put-cells .ensures)
+    stored _ _ (p .answer _ ∙ into-room _ _ _ (omega arith)) (omega arith) (c .before .before .put-cells .ensures)
 
 pub unpack-spec : {M : Type 1} → statement M
 unpack-spec =
     tie.close
     (tie.spec
     test-requires
-    enum-known-tested
+    enum-known-so-far
     enum-told
     returns
     returns-2

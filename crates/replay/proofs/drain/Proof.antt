@@ -1,7 +1,6 @@
 -- `replay::drain` is safe and ends: the turns fall.
 -- Assumes nothing.
 use mathlib.Core.Path.{_≡_}
-use native.Mathlib.Omega.{arith}
 use borrow.Author.Needs.{needs}
 use lib.ListN.{length}
 use Rattle.replay.proofs.drain.Statement.{statement}

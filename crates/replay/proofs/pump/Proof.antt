@@ -36,7 +36,7 @@ show-requires : tie.Need-show-requires Inv-loop μ-loop
 show-requires c κs = search needs
 
 loop-less : tie.Need-loop-less Inv-loop μ-loop
-loop-less c = omega (arith, c .before .before .before .before .before .before .feed .ensures .on (omega arith) (omega arith))
+loop-less c = omega (arith, c .before .before .before .before .before .before .feed .ensures .feeds-on (omega arith) (omega arith))
 
 loop-again : tie.Need-loop-again Inv-loop μ-loop
 loop-again c = search needs

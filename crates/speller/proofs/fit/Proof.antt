@@ -1,13 +1,11 @@
 -- `speller::fit` meets its contract: each way out is one law of the answers.
 -- Assumes nothing.
-use Prim.Native.Nat.{ℕ}
-use mathlib.Core.Path.{sym, ap, _∙_}
-use mathlib.Core.List.{[]}
+use mathlib.Core.Path.{sym, _∙_}
 use native.Mathlib.Omega.{arith}
 use borrow.Author.Needs.{needs}
-use Rattle.paper.specs.Answers.{refuse, accept}
-use Rattle.helpers.specs.Numbers.{refusalNumber, tells}
-use Rattle.helpers.proofs.Gives.{told-refused, told-done}
+use Rattle.helpers.specs.Numbers.{refusalNumber}
+use Rattle.helpers.specs.Contracts.{answers}
+use Rattle.helpers.proofs.Gives.{said-refused, said-done}
 use Rattle.speller.proofs.Fits.{fitted-refused, fitted-short, fitted-done}
 use Rattle.speller.proofs.fit.Statement.{statement}
 use Rattle.speller.proofs.fit.Tie as tie
@@ -24,25 +22,23 @@ enum-told-2 c = search needs
 returns : tie.Need-returns
 returns c =
     let vet = c .before .before .vet .ensures in
-    let e = told-refused (c .enum-told2 .given .1) vet in
+    let e = said-refused (c .enum-told2 .given .1) vet in
     vet ∙ e ∙ sym (fitted-refused _ _ _ _ _ e)
 
 needed-requires : tie.Need-needed-requires
 needed-requires c κs = search needs
 
 returns-2 : tie.Need-returns-2
-unfolding tells refusalNumber
+unfolding answers refusalNumber
 returns-2 c =
-    let done = told-done (c .before .before .enum-told .given .1) (c .before .before .before .before .vet .ensures) in
-    let n = c .before .needed .ensures in
-    ap (refuse 5) n ∙ sym (fitted-short _ _ _ _ done (omega arith))
+    let done = said-done (c .before .before .enum-told .given .1) (c .before .before .before .before .vet .ensures) in
+    sym (fitted-short _ _ _ _ _ done (omega arith) (c .before .needed .ensures))
 
 returns-3 : tie.Need-returns-3
-unfolding tells
+unfolding answers
 returns-3 c =
-    let done = told-done (c .before .before .enum-told .given .1) (c .before .before .before .before .vet .ensures) in
-    let n = c .before .needed .ensures in
-    ap (λ (k : ℕ). accept k []) n ∙ sym (fitted-done _ _ _ _ done (omega arith))
+    let done = said-done (c .before .before .enum-told .given .1) (c .before .before .before .before .vet .ensures) in
+    sym (fitted-done _ _ _ _ _ done (omega arith) (c .before .needed .ensures))
 
 pub fit-spec : {M : Type 1} → statement M
 fit-spec =

@@ -1,9 +1,10 @@
 -- `speller::in_both` meets its contract: five letters and no other.
 -- Assumes nothing.
-use mathlib.Core.Path.{sym}
+use mathlib.Core.Path.{sym, ap}
+use native.Mathlib.Omega.{arith}
 use Rattle.paper.specs.Crate.{inBoth, asList, pointIn}
 use Rattle.speller.specs.Walked.{saidOf}
-use Rattle.speller.proofs.Says.{both-none}
+use Rattle.speller.proofs.Says.{point-past}
 use Rattle.speller.proofs.in_both.Statement.{statement}
 use Rattle.speller.proofs.in_both.Tie as tie
 
@@ -28,8 +29,8 @@ unfolding saidOf inBoth asList pointIn
 returns-5 c = rw (c .match .keys5)
 
 returns-6 : tie.Need-returns-6
-unfolding saidOf
-returns-6 c = let r = c .match .rest in sym (both-none _ (r .0 .0 .0 .0 .1) (r .0 .0 .0 .1) (r .0 .0 .1) (r .0 .1) (r .1))
+unfolding saidOf inBoth asList pointIn
+returns-6 c = sym (ap asList (point-past 5 inBoth (c .before .args .m) (omega arith)))
 
 pub in-both-spec : {M : Type 1} → statement M
 in-both-spec = tie.close (tie.spec returns returns-2 returns-3 returns-4 returns-5 returns-6)

@@ -1,11 +1,11 @@
--- `speller::needed` meets its contract: a loop that counts what each number says.
+-- `speller::needed` meets its contract: a loop that counts what each number gives.
 -- Assumes nothing.
 use Prim.Native.Nat.{_-_}
 use mathlib.Core.Path.{ap, _∙_}
 use native.Mathlib.Omega.{arith}
 use borrow.Author.Needs.{needs}
 use lib.ListN.{length}
-use Rattle.code128.specs.Sets.{setOf}
+use Rattle.tokens.specs.Sets.{setOf}
 use Rattle.speller.specs.Walked.{sayOf}
 use Rattle.speller.proofs.Says.{said-short}
 use Rattle.speller.proofs.Walks.{Counting, counting-begin, counting-turn, counting-end}

@@ -1,11 +1,13 @@
 -- `speller::own` meets its contract: the letters of each set, and no other.
 -- Assumes nothing.
 use mathlib.Core.Path.{sym, _∙_}
+use native.Mathlib.Omega.{arith}
 use borrow.Author.Needs.{needs}
+use Rattle.paper.specs.Iso15417.{before, A, B, C}
 use Rattle.paper.specs.Crate.{inBoth, spans, asList, pointIn}
-use Rattle.code128.specs.Sets.{setOf}
+use Rattle.tokens.specs.Sets.{setOf}
 use Rattle.speller.specs.Walked.{saidOf, runsOf, ownOf}
-use Rattle.speller.proofs.Says.{own-a, own-b, own-c, own-before}
+use Rattle.speller.proofs.Says.{own-past}
 use Rattle.speller.proofs.own.Statement.{statement}
 use Rattle.speller.proofs.own.Tie as tie
 
@@ -36,8 +38,8 @@ unfolding saidOf setOf ownOf runsOf spans inBoth pointIn asList
 returns-2 c = rw (c .before .enum-told .given .1, c .match2 .keys2)
 
 returns-3 : tie.Need-returns-3
-unfolding setOf
-returns-3 c = let r = c .before .match2 .rest in rw (c .before .before .enum-told .given .1) (c .in-both .ensures ∙ sym (own-a _ (r .0 .1) (r .1)))
+unfolding setOf runsOf spans
+returns-3 c = rw (c .before .before .enum-told .given .1) (c .in-both .ensures ∙ sym (own-past A 2 _ (omega arith)))
 
 returns-4 : tie.Need-returns-4
 unfolding saidOf setOf ownOf runsOf spans inBoth pointIn asList
@@ -52,8 +54,8 @@ unfolding saidOf setOf ownOf runsOf spans inBoth pointIn asList
 returns-6 c = rw (c .before .enum-told2 .given .1, c .match3 .keys3)
 
 returns-7 : tie.Need-returns-7
-unfolding setOf
-returns-7 c = let r = c .before .match3 .rest in rw (c .before .before .enum-told2 .given .1) (c .in-both2 .ensures ∙ sym (own-b _ (r .0 .0 .1) (r .0 .1) (r .1)))
+unfolding setOf runsOf spans
+returns-7 c = rw (c .before .before .enum-told2 .given .1) (c .in-both2 .ensures ∙ sym (own-past B 3 _ (omega arith)))
 
 returns-8 : tie.Need-returns-8
 unfolding saidOf setOf ownOf runsOf spans inBoth pointIn asList
@@ -68,8 +70,8 @@ unfolding saidOf setOf ownOf runsOf spans inBoth pointIn asList
 returns-10 c = rw (c .before .enum-told3 .given .1, c .match4 .keys3)
 
 returns-11 : tie.Need-returns-11
-unfolding saidOf setOf
-returns-11 c = let r = c .match4 .rest in rw (c .before .enum-told3 .given .1) (sym (own-c _ (r .0 .0 .1) (r .0 .1) (r .1)))
+unfolding saidOf setOf runsOf spans pointIn asList
+returns-11 c = rw (c .before .enum-told3 .given .1) (sym (own-past C 3 _ (omega arith)))
 
 returns-12 : tie.Need-returns-12
 unfolding saidOf setOf ownOf runsOf spans inBoth pointIn asList
@@ -84,8 +86,8 @@ unfolding saidOf setOf ownOf runsOf spans inBoth pointIn asList
 returns-14 c = rw (c .before .enum-told4 .given .1, c .match5 .keys3)
 
 returns-15 : tie.Need-returns-15
-unfolding saidOf setOf
-returns-15 c = let r = c .match5 .rest in rw (c .before .enum-told4 .given .1) (sym (own-before _ (r .0 .0 .1) (r .0 .1) (r .1)))
+unfolding saidOf setOf runsOf spans pointIn asList
+returns-15 c = rw (c .before .enum-told4 .given .1) (sym (own-past before 3 _ (omega arith)))
 
 pub own-spec : {M : Type 1} → statement M
 own-spec =

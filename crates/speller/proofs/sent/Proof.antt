@@ -4,7 +4,7 @@ use native.Mathlib.Omega.{arith}
 use borrow.Author.Tests.{lt-ltb, le-ltb}
 use borrow.Author.Needs.{needs}
 use Rattle.paper.specs.Iso15417.{sent, digits}
-use Rattle.code128.specs.Sets.{setOf}
+use Rattle.tokens.specs.Sets.{setOf}
 use Rattle.speller.specs.Walked.{saidOf}
 use Rattle.speller.proofs.sent.Statement.{statement}
 use Rattle.speller.proofs.sent.Tie as tie

@@ -1,7 +1,7 @@
 -- `code128::chars::words` meets its contract: `WORDS` has the standard's patterns.
 -- Assumes nothing.
 use mathlib.Core.Path.{refl}
-use Rattle.paper.specs.Iso15417.{iso15417-computes}
+use Rattle.paper.proofs.Computes.{iso15417-computes}
 use Rattle.paper.specs.Jobs.{bits}
 use Rattle.code128.specs.Words.{wordsFrom, words}
 use Rattle.code128.proofs.chars.words.Statement.{statement}

@@ -1,0 +1,764 @@
+-- Answers from outside that the definitions in specs/ are held to: from document 01 by hand, from
+-- the standard as we know it, and from the crate when it is run. Where a comment says "by hand", a
+-- Python program written from document 01 alone gave the same answer (tools/examples/model.py).
+-- Only proofs use these tables: Against.antt proves by computation that the definitions give every
+-- answer in them. Nobody needs to audit them to know what is promised: that is in specs/.
+-- tools/examples makes this file. Assumes nothing.
+use Prim.Native.Nat.{ℕ, zero, suc, _+_, _-_, _*_, _/_, _%_}
+use Prim.Native.String.{String}
+use mathlib.Core.Bool.{Bool, true, false, _&&_, not}
+use mathlib.Core.List.{List, [], _∷_, _++_}
+use lib.Dec.{ltb, eqb}
+use lib.ListN.{length, take, drop, replicate}
+use Rattle.helpers.specs.Answers.{if_then_else_, Answer, refuse, accept, number, second, after}
+use Rattle.paper.specs.Iso15417.{points, check, count, row}
+use Rattle.paper.specs.Crate.{À, Ɓ, Ć, Parsed, symbols, parse}
+use Rattle.paper.specs.Settle.{settle, inside}
+use Rattle.paper.specs.Jobs.{encode, draw, read, spell, scan, pack, unpack}
+use Rattle.paper.specs.Labels.{Label, _⇒_}
+use Rattle.paper.specs.Damage.{redrawn, verdict}
+use Rattle.paper.proofs.Computes.{settle-computes, chars-computes, rules-computes, damage-computes}
+
+-- ---- how the tables are written
+
+-- the digits 0 to 9 and A to F as numbers; blanks are left out
+unfoldable pub digit16 : ℕ → List ℕ
+digit16 c = if eqb c 32 then [] else if ltb c 65 then (c - 48) ∷ [] else ((c - 55) ∷ [])
+
+unfoldable pub digits16 : List ℕ → List ℕ
+digits16 [] = []
+digits16 (c ∷ cs) = digit16 c ++ digits16 cs
+
+-- cells one by one
+unfoldable pub cellsOf : String → List ℕ
+cellsOf text = digits16 (points text)
+
+-- the four cells of each digit, the first in the top bit
+unfoldable pub fours : List ℕ → List ℕ
+fours [] = []
+fours (d ∷ ds) = (d / 8) ∷ (d / 4 % 2) ∷ (d / 2 % 2) ∷ (d % 2) ∷ fours ds
+
+-- the row of n symbols, four cells to a digit
+unfoldable pub rowOf : ℕ → String → List ℕ
+rowOf n text = take (11 * n + 24) (fours (cellsOf text))
+
+-- an acceptance with that row
+unfoldable pub accepted : ℕ → String → Answer
+accepted n text = accept n (rowOf n text)
+
+-- the numbers of two digits each
+unfoldable pub pairs16 : List ℕ → List ℕ
+pairs16 [] = []
+pairs16 (a ∷ []) = []
+pairs16 (a ∷ b ∷ ds) = (16 * a + b) ∷ pairs16 ds
+
+-- bytes, two digits each
+unfoldable pub bytesOf : String → List ℕ
+bytesOf text = pairs16 (cellsOf text)
+
+-- the first n blocks of eleven cells
+unfoldable pub elevens : ℕ → List ℕ → List (List ℕ)
+elevens zero cs = []
+elevens (suc n) cs = take 11 cs ∷ elevens n (drop 11 cs)
+
+-- some lists, one after the other
+unfoldable pub joined : List (List ℕ) → List ℕ
+joined [] = []
+joined (xs ∷ xss) = xs ++ joined xss
+
+-- n copies of a list, one after the other
+unfoldable pub times : ℕ → List ℕ → List ℕ
+times zero xs = []
+times (suc n) xs = xs ++ times n xs
+
+-- ---- what is compared: the answers of the definitions with the answers in a table's entries
+
+infix 15 _into_gives_
+infix 15 _is_checked_sends_
+infix 15 _spells_scans_draws_
+infix 15 _becomes_
+infix 15 _at_drawn_gives_
+-- a job's input, the number of elements of the lent buffer, and the answer
+pub data Example : Type 0 where
+  _into_gives_ : List ℕ → ℕ → Answer → Example
+
+unfoldable pub asked : (ℕ → List ℕ → Answer) → Example → Answer
+asked job (x into room gives a) = job room x
+
+unfoldable pub given : Example → Answer
+given (x into room gives a) = a
+
+-- a label, its symbols, its check, and what a scanner sends for it
+pub data Published : Type 0 where
+  _is_checked_sends_ : String → List ℕ → ℕ → String → Published
+
+unfoldable pub parsedAs : Published → Parsed × ℕ × Answer
+parsedAs (x is s checked c sends b) = (parse (points x), check s, scan (length (points b)) s)
+
+unfoldable pub printedAs : Published → Parsed × ℕ × Answer
+printedAs (x is s checked c sends b) = (symbols s, c, accept (length (points b)) (points b))
+
+-- two texts, a place, and those code points in `tried` that are not refused 3 at that place when
+-- they are put between the texts
+pub data Sweep : Type 0 where
+  swept : String → String → ℕ → List ℕ → Sweep
+
+unfoldable pub tried : List ℕ
+tried = count 0 512 ++ (0x7FF ∷ 0x800 ∷ 0xD7FF ∷ 0xE000 ∷ 0xFFFF ∷ 0x10000 ∷ 0x10FFFF ∷ [])
+
+unfoldable pub passesAt : ℕ → Answer → Bool
+passesAt place a = not (eqb (number a) 3 && eqb (second a) place)
+
+-- the elements that have a property
+unfoldable pub those : (ℕ → Bool) → List ℕ → List ℕ
+those keeps [] = []
+those keeps (c ∷ cs) = (if keeps c then c ∷ [] else []) ++ those keeps cs
+
+unfoldable pub passing : Sweep → List ℕ
+passing (swept first rest place found) = those (λ c. passesAt place (encode 2829 (points first ++ (c ∷ points rest)))) tried
+
+unfoldable pub kept : Sweep → List ℕ
+kept (swept first rest place found) = found
+
+-- a symbol list, the label that spells it, what a scanner sends for it, and its row
+pub data Listed : Type 0 where
+  _spells_scans_draws_ : List ℕ → String → String → String → Listed
+
+unfoldable pub threeJobs : Listed → List Answer
+threeJobs (s spells x scans b draws r) = spell (length (points x)) s ∷ scan (length (points b)) s ∷ draw (11 * length s + 24) s ∷ []
+
+unfoldable pub threeAnswers : Listed → List Answer
+threeAnswers (s spells x scans b draws r) =
+    accept (length (points x)) (points x) ∷ accept (length (points b)) (points b) ∷ accepted (length s) r ∷ []
+
+-- a label with a Ź inside a pair and the label that it becomes when each such Ź is moved ahead of
+-- its pair; or a label with no Ź inside a pair, which stays as it is
+pub data Settled : Type 0 where
+  _becomes_ : String → String → Settled
+  stays : String → Settled
+
+unfoldable pub settles : Settled → Bool × List ℕ
+settles (x becomes y) = (inside (points x), settle (points x))
+settles (stays x) = (inside (points x), settle (points x))
+
+unfoldable pub settled : Settled → Bool × List ℕ
+settled (x becomes y) = (true, points y)
+settled (stays x) = (false, points x)
+
+-- a symbol list, a block of its row, the number that is drawn over it, and what read answers then:
+-- `verdict` must say the same, and so must `read` of the changed row
+pub data Redrawn : Type 0 where
+  _at_drawn_gives_ : List ℕ → ℕ → ℕ → Answer → Redrawn
+
+unfoldable pub ruled : Redrawn → List Answer
+ruled (s at i drawn m gives a) = verdict s i m ∷ read 255 (redrawn i m (row s)) ∷ []
+
+unfoldable pub twice : Redrawn → List Answer
+twice (s at i drawn m gives a) = a ∷ a ∷ []
+
+-- a job, its input and the buffer lent to it; then the answer number, the second number and what
+-- the buffer holds after the call
+pub data Buffer : Type 0 where
+  calls : (ℕ → List ℕ → Answer) → List ℕ → List ℕ → ℕ → ℕ → List ℕ → Buffer
+
+unfoldable pub gave : Answer → List ℕ → ℕ × ℕ × List ℕ
+gave a buf = (number a, second a, after a buf)
+
+unfoldable pub called : Buffer → ℕ × ℕ × List ℕ
+called (calls job x buf k m out) = gave (job (length buf) x) buf
+
+unfoldable pub left : Buffer → ℕ × ℕ × List ℕ
+left (calls job x buf k m out) = (k, m, out)
+
+-- ---- a. document 01's labels
+
+-- "Labels on each side of the line", those without a star except the two longest, and the lines of
+-- "The label program", all as document 01 prints them.
+unfoldable pub unstarred : List Example
+unstarred =
+    (points "Ć1À" into 2829 gives refuse 3 2) ∷ (points "Ɓ\u{7f}" into 2829 gives refuse 3 1) ∷ (65 ∷ 0xD800 ∷ [] into 2829 gives refuse 1 1) ∷
+    (0x110000 ∷ [] into 2829 gives refuse 1 0) ∷ (Ɓ ∷ replicate 255 65 into 2829 gives refuse 4 256) ∷
+    (Ɓ ∷ replicate 300 65 ++ (0x20AC ∷ []) into 2829 gives refuse 3 301) ∷ (points "À" into 34 gives refuse 5 35) ∷
+    (points "À" into 35 gives accept 1 (cellsOf "11010000100110110011001100011101011")) ∷
+    (points "À" into 2829 gives accept 1 (cellsOf "11010000100110110011001100011101011")) ∷
+    (points "Ć12" into 2829 gives accept 2 (cellsOf "1101001110010110011100100110011101100011101011")) ∷ ([] into 2829 gives refuse 2 0) ∷
+    (points "Ć1" into 2829 gives refuse 3 2) ∷ (0xD800 ∷ [] into 2829 gives refuse 1 0) ∷ []
+
+-- "Unpack of 1, 0: 22, 0. Of 2, 1: 21, 2. Of one byte: 20, 1."
+unfoldable pub unstarredRecords : List Example
+unstarredRecords =
+    (1 ∷ 0 ∷ [] into 2829 gives refuse 22 0) ∷ (2 ∷ 1 ∷ [] into 2829 gives refuse 21 2) ∷ (1 ∷ [] into 2829 gives refuse 20 1) ∷ []
+
+-- "Ɓ and 254 A: n = 255." and "Ć and 508 digits: n = 255.", the digits being 0 to 9 again and
+-- again. The rows are put together from patterns of `CHARS`, copied from the crate's source;
+-- model.py computed the checks, 81 and 83.
+unfoldable pub longest : List Example
+longest =
+    ((Ɓ ∷ replicate 254 65) into 2829 gives accept 255
+    (cellsOf "11010010000" ++ (times 254 (cellsOf "10100011000") ++ cellsOf "10010111100 1100011101011"))) ∷
+    ((Ć ∷ times 50 (points "0123456789") ++ points "01234567") into 2829 gives accept 255
+    (cellsOf "11010011100" ++ (times 50 (cellsOf "11001101100 11101101110 10111011000 10000101100 11011011110") ++
+    cellsOf "11001101100 11101101110 10111011000 10000101100 10111100100 1100011101011"))) ∷ []
+
+-- Encode's refusals, their places and their order, by hand from document 01's table and "Order".
+-- The values D800..DFFF and those above 10FFFF are no Rust chars, so the crate cannot be asked
+-- about refusal 1.
+unfoldable pub order : List Example
+order =
+    (0xDFFF ∷ [] into 2829 gives refuse 1 0) ∷ (0xFFFFFFFF ∷ [] into 2829 gives refuse 1 0) ∷ (0xD7FF ∷ [] into 2829 gives refuse 3 0) ∷
+    (0xE000 ∷ [] into 2829 gives refuse 3 0) ∷ (0x10FFFF ∷ [] into 2829 gives refuse 3 0) ∷ (À ∷ 0xDBFF ∷ 0xDC00 ∷ [] into 2829 gives refuse 1 1) ∷
+    (65 ∷ 65 ∷ 65 ∷ 0xDABC ∷ [] into 2829 gives refuse 1 3) ∷ (Ć ∷ 49 ∷ À ∷ 0x110000 ∷ 0xD800 ∷ [] into 0 gives refuse 1 3) ∷
+    (Ɓ ∷ replicate 300 65 ++ (0xD800 ∷ []) into 2829 gives refuse 1 301) ∷ ([] into 0 gives refuse 2 0) ∷ (0x7F ∷ [] into 0 gives refuse 2 0) ∷
+    (0 ∷ [] into 2829 gives refuse 2 0) ∷ (0x80 ∷ [] into 0 gives refuse 3 0) ∷ (65 ∷ 65 ∷ [] into 0 gives refuse 3 0) ∷ (points "ÀÀ" into 0 gives refuse 3 1) ∷
+    (Ć ∷ replicate 509 48 into 2829 gives refuse 3 510) ∷ (Ć ∷ replicate 510 48 into 0 gives refuse 4 256) ∷ (Ɓ ∷ replicate 255 65 into 0 gives refuse 4 256) ∷
+    (points "À" into 0 gives refuse 5 35) ∷ (points "Ć12" into 45 gives refuse 5 46) ∷ (Ɓ ∷ replicate 254 65 into 2828 gives refuse 5 2829) ∷ []
+
+-- ---- b. published examples
+
+-- AIM in set B with the check 45 (ISO/IEC 15417, Figure 1); AIM1234 with the check 87 (its Annex
+-- A.1); and, from Wikipedia's article "Code 128", PJJ123C in set A with the check 54 and the word
+-- Wikipedia in set B. No copy of these texts was at hand: the values are as we know them. An entry
+-- has the label, its symbols, its check and what a scanner sends. The sums that give the checks, by
+-- hand: 104+33+82+135=354, 354+396+60+204=1014, 103+48+84+126+68+90+114+245=878 and
+-- 104+55+146+225+292+400+414+476+584+585=3281.
+unfoldable pub published : List Published
+published =
+    ("ƁAIM" is (104 ∷ 33 ∷ 41 ∷ 45 ∷ []) checked 45 sends "AIM") ∷ ("ƁAIMĆ1234" is (104 ∷ 33 ∷ 41 ∷ 45 ∷ 99 ∷ 12 ∷ 34 ∷ []) checked 87 sends "AIM1234") ∷
+    ("ÀPJJ123C" is (103 ∷ 48 ∷ 42 ∷ 42 ∷ 17 ∷ 18 ∷ 19 ∷ 35 ∷ []) checked 54 sends "PJJ123C") ∷
+    ("ƁWikipedia" is (104 ∷ 55 ∷ 73 ∷ 75 ∷ 73 ∷ 80 ∷ 69 ∷ 68 ∷ 73 ∷ 65 ∷ []) checked 88 sends "Wikipedia") ∷ []
+
+-- Two of their rows: that of PJJ123C from the bar patterns in the article's table, that of AIM from
+-- the standard's widths 211214 111323 231311 113123 113123 2331112.
+unfoldable pub publishedRows : List Example
+publishedRows =
+    (points "ÀPJJ123C" into 112
+    gives accept 8 (cellsOf "11010000100 11101110110 10110111000 10110111000 10011100110 11001110010 11001011100 10001000110 11101011000 1100011101011")) ∷
+    (points "ƁAIM" into 68 gives accept 4 (cellsOf "11010010000 10100011000 11000100010 10111011000 10111011000 1100011101011")) ∷ []
+
+-- ---- c. the crate's answers
+
+-- The tables under c are from the crate barcoders 2.0.0, its source unchanged: first its constants,
+-- then what `Code128` answers when it is run. Rows are written in hexadecimal. Error::Length is
+-- refusal 2 and Error::Character is refusal 3. The crate gives no place: the place is the length of
+-- the longest prefix of the label that the crate accepts with some ending, and each prefix was
+-- tried with these endings: none, À, 0, 00, Ź0, A, a. The crate cannot be asked about D800..DFFF
+-- and above 10FFFF, which are no Rust chars, nor about the length of a buffer; and it has no upper
+-- limit.
+
+-- `CHARS`, all 1,166 cells as they stand in the crate's source
+unfoldable pub crateChars : List ℕ
+crateChars =
+    take 1166 (fours (
+    cellsOf "D999B333498919132644C48C992322624B39372675CC9D939B3965CC9DB933A76EE99CB393764E69CCB6C6C6C6D4622C44" ++
+    cellsOf "6B111A231688C5188ADC58E8DD762E3476EEDA3B176E8DC5BBBAC746E2DDA3B171AEF590BC5530A192C24342C84D642C24" ++
+    cellsOf "D09850D219612CA1EEB0A47AA792F24F5E49E93CBD2794F25B7B7B7B6AF147A2F5E8BC5EA3D15DEBDDD7BD7684D21A70"))
+
+-- `STOP` and then `TERM`
+unfoldable pub crateStop : List ℕ
+crateStop = cellsOf "11000111010 11"
+
+-- the widths of the bars and spaces of each pattern, counted in the crate's cells by tools/examples
+unfoldable pub crateWidths : List ℕ
+crateWidths =
+    cellsOf "212222 222122 222221 121223 121322 131222 122213 122312 132212 221213 221312 231212 112232 122132 122231 113222 123122 123221 223211 221132" ++
+    cellsOf "221231 213212 223112 312131 311222 321122 321221 312212 322112 322211 212123 212321 232121 111323 131123 131321 112313 132113 132311 211313" ++
+    cellsOf "231113 231311 112133 112331 132131 113123 113321 133121 313121 211331 231131 213113 213311 213131 311123 311321 331121 312113 312311 332111" ++
+    cellsOf "314111 221411 431111 111224 111422 121124 121421 141122 141221 112214 112412 122114 122411 142112 142211 241211 221114 413111 241112 134111" ++
+    cellsOf "111242 121142 121241 114212 124112 124211 411212 421112 421211 212141 214121 412121 111143 111341 131141 114113 114311 411113 411311 113141" ++
+    cellsOf "114131 311141 411131 211412 211214 211232"
+
+-- how many cells of each pattern are bars, counted in the same way
+unfoldable pub crateBars : List ℕ
+crateBars = cellsOf "6664444444446666666666686666666664444444446666668666686666668464444444444444484666666666688866666668888446"
+
+-- every number of each set, but for the switches
+unfoldable pub everyNumber : List Label
+everyNumber =
+    ("À !\"#$%&'()*+,-./0123456789:;<=>?" ⇒ accepted 33 "D09B3336666931232264C898919324644C496726E4CEB993B273672CB993B72674EDDD3396726EC9CD3996D8D8DEA31D6") ∷
+    ("À@ABCDEFGHIJKLMNOPQRSTUVWXYZ[\\]^_" ⇒ accepted 33 "D098DA8C45888D62234462D118A3115B8B1D1BAEC5C68EDDDB4762EDD1B8B77758E8DC5BB4762E35DEB2178AA61D7B1D6") ∷
+    ("À\0\u{1}\u{2}\u{3}\u{4}\u{5}\u{6}\u{7}\u{8}\t\n\u{b}\u{c}\r\u{e}\u{f}" ⇒ accepted 17 "D094325848685909AC85849A130A1A432C25943DD6148F50D31D6") ∷
+    ("À\u{10}\u{11}\u{12}\u{13}\u{14}\u{15}\u{16}\u{17}\u{18}\u{19}\u{1a}\u{1b}\u{1c}\u{1d}\u{1e}\u{1f}"
+    ⇒ accepted 17 "D094F25E49EBC93D2797A4F29E4B6F6F6F6D5E28F45EBD1E931D6") ∷
+    ("ÀŻźŽżŹ" ⇒ accepted 6 "D0978BD47A2EBDEBB8B63AC") ∷
+    ("Ɓ !\"#$%&'()*+,-./0123456789:;<=>?" ⇒ accepted 33 "D21B3336666931232264C898919324644C496726E4CEB993B273672CB993B72674EDDD3396726EC9CD3996D8D8DE8B1D6") ∷
+    ("Ɓ@ABCDEFGHIJKLMNOPQRSTUVWXYZ[\\]^_" ⇒ accepted 33 "D218DA8C45888D62234462D118A3115B8B1D1BAEC5C68EDDDB4762EDD1B8B77758E8DC5BB4762E35DEB2178AA61EBB1D6") ∷
+    ("Ɓ`abcdefghijklmnopqrstuvwxyz{|}~÷" ⇒ accepted 33 "D214325848685909AC85849A130A1A432C25943DD6148F54F25E49EBC93D2797A4F29E4B6F6F6F6D5E28F45EBD12631D6") ∷
+    ("ƁŻźŽżŹ" ⇒ accepted 6 "D2178BD47A2BDDEBB7763AC") ∷
+    ("Ć00010203040506070809101112131415161718192021222324" ⇒ accepted 26 "D39B3336666931232264C898919324644C496726E4CEB993B273672CB993B72674EDDD337163AC") ∷
+    ("Ć25262728293031323334353637383940414243444546474849" ⇒ accepted 26 "D39CB393764E69CCB6C6C6C6D4622C446B111A231688C5188ADC58E8DD762E3476EEDA3B1463AC") ∷
+    ("Ć50515253545556575859606162636465666768697071727374" ⇒ accepted 26 "D398BB746E2DDDD63A3716ED1D8B8D77AC85E2A9850C96121A16426B21612684C28690CB9A63AC") ∷
+    ("Ć75767778798081828384858687888990919293949596979899" ⇒ accepted 26 "D3984B287BAC291EA9E4BC93D7927A4F2F49E53C96DEDEDEDABC51E8BD7A2F17A8F4577A7663AC") ∷
+    ("ĆŹ" ⇒ accepted 2 "D39EBB3663AC") ∷ []
+
+-- every switch, to another set and to the current one, and what follows it
+unfoldable pub everySwitch : List Label
+everySwitch =
+    ("ÀƁ" ⇒ accepted 2 "D097BAF763AC") ∷ ("ÀĆ" ⇒ accepted 2 "D0977AEF63AC") ∷ ("ƁÀ" ⇒ accepted 2 "D21D7BD763AC") ∷ ("ƁĆ" ⇒ accepted 2 "D2177AF763AC") ∷
+    ("ĆÀ" ⇒ accepted 2 "D39D7B6663AC") ∷ ("ĆƁ" ⇒ accepted 2 "D397BBD763AC") ∷ ("ÀƁa" ⇒ accepted 3 "D097BA5874CC758") ∷ ("ÀĆ00" ⇒ accepted 3 "D0977B665DEC758") ∷
+    ("ƁÀ\u{1f}" ⇒ accepted 3 "D21D7AF47A4C758") ∷ ("ƁĆ99" ⇒ accepted 3 "D2177AEF578C758") ∷ ("ĆÀ\0" ⇒ accepted 3 "D39D7A8672CC758") ∷
+    ("ĆƁz" ⇒ accepted 3 "D397BB7B650C758") ∷ ("ÀƁÀƁ" ⇒ accepted 4 "D097BBAF5EEF298EB") ∷ ("ÀĆÀĆ" ⇒ accepted 4 "D0977BAF5DEBC98EB") ∷
+    ("ƁĆƁĆ" ⇒ accepted 4 "D2177AF75DE93D8EB") ∷ ("ÀƁĆÀĆƁÀ" ⇒ accepted 7 "D097BAEF75EBBD7BBAF58EC758") ∷ ("ĆƁÀĆƁÀĆ" ⇒ accepted 7 "D397BBAF5DEBDDD7AEF628C758") ∷
+    ("Ć12À\u{1}Ɓ~Ć34" ⇒ accepted 8 "D39673AF4B0BDD17AEF458DDD8EB") ∷ ("ÀAƁaĆ55Ɓ5À5" ⇒ accepted 10 "D09462F74B0BBDD1AF76E4EBDB93C563AC") ∷
+    ("ĆŹƁŹÀŹĆŹ" ⇒ accepted 8 "D39EBAF77AEEBDEBAEF7AEDD18EB") ∷ ("ÀĆ99Ɓ99À99" ⇒ accepted 9 "D0977AEF5EEE59CB3AF72CE59B8B1D6") ∷ ("ÀÀ" ⇒ refuse 3 1) ∷
+    ("ƁƁ" ⇒ refuse 3 1) ∷ ("ĆĆ" ⇒ refuse 3 1) ∷ ("ÀƁƁ" ⇒ refuse 3 2) ∷ ("ƁÀÀ" ⇒ refuse 3 2) ∷ ("ÀĆĆ" ⇒ refuse 3 2) ∷ ("ĆÀÀ" ⇒ refuse 3 2) ∷ ("ĆƁƁ" ⇒ refuse 3 2) ∷
+    ("Ć12Ć34" ⇒ refuse 3 3) ∷ ("ÀAÀ" ⇒ refuse 3 2) ∷ ("ƁaƁ" ⇒ refuse 3 2) ∷ ("ƁaÀ\u{1}a" ⇒ refuse 3 4) ∷ ("ÀĆ1À" ⇒ refuse 3 3) ∷ ("ÀĆ1Ɓ" ⇒ refuse 3 3) ∷
+    ("ÀĆ1Ć" ⇒ refuse 3 3) ∷ ("Ć1À" ⇒ refuse 3 2) ∷ ("Ć1Ɓ" ⇒ refuse 3 2) ∷ ("Ć1Ć" ⇒ refuse 3 2) ∷ ("Ć123À" ⇒ refuse 3 4) ∷ ("Ć123Ɓ4" ⇒ refuse 3 4) ∷
+    ("ÀƁ\u{1f}" ⇒ refuse 3 2) ∷ ("ƁÀa" ⇒ refuse 3 2) ∷ ("ÀĆA" ⇒ refuse 3 2) ∷ ("ĆÀa" ⇒ refuse 3 2) ∷ ("ĆƁ\n" ⇒ refuse 3 2) ∷ []
+
+-- Shift and the function symbols in every set: Ž shifts nothing, and set C has Ź alone
+unfoldable pub everyFunction : List Label
+everyFunction =
+    ("ÀŽ" ⇒ accepted 2 "D09E8BD163AC") ∷ ("Àż" ⇒ accepted 2 "D09D7BAF63AC") ∷ ("Àź" ⇒ accepted 2 "D09EA3D463AC") ∷ ("ÀŻ" ⇒ accepted 2 "D0978AF163AC") ∷
+    ("ÀŹ" ⇒ accepted 2 "D09EBBD763AC") ∷ ("ƁŽ" ⇒ accepted 2 "D21E8AEF63AC") ∷ ("Ɓż" ⇒ accepted 2 "D217BBAF63AC") ∷ ("Ɓź" ⇒ accepted 2 "D21EA3D163AC") ∷
+    ("ƁŻ" ⇒ accepted 2 "D2178BD463AC") ∷ ("ƁŹ" ⇒ accepted 2 "D21EBB6663AC") ∷ ("ĆŽ" ⇒ refuse 3 1) ∷ ("Ćż" ⇒ refuse 3 1) ∷ ("Ćź" ⇒ refuse 3 1) ∷
+    ("ĆŻ" ⇒ refuse 3 1) ∷ ("ĆŹ" ⇒ accepted 2 "D39EBB3663AC") ∷ ("ÀŽa" ⇒ refuse 3 2) ∷ ("ÀŽ\u{1}" ⇒ accepted 3 "D09E8A58674C758") ∷ ("ƁŽ\u{1}" ⇒ refuse 3 2) ∷
+    ("ƁŽa" ⇒ accepted 3 "D21E8A5876EC758") ∷ ("ƁŽA" ⇒ accepted 3 "D21E8A8C78AC758") ∷ ("ÀŽŽ" ⇒ accepted 3 "D09E8BD1792C758") ∷
+    ("ÀżA" ⇒ accepted 3 "D09D7A8C50CC758") ∷ ("Ɓż€" ⇒ refuse 3 2) ∷ ("ƁźŻżŹ" ⇒ accepted 5 "D21EA2F15EEF5D3431D6") ∷ ("ĆŹŹŹ" ⇒ accepted 4 "D39EBBD77AEBBD8EB") ∷
+    ("Ć12Ž" ⇒ refuse 3 3) ∷ ("Ć1Ž2" ⇒ refuse 3 2) ∷ ("Ć1ż2" ⇒ refuse 3 2) ∷ ("Ć1ź2" ⇒ refuse 3 2) ∷ ("Ć1Ż2" ⇒ refuse 3 2) ∷ ("ĆƁŽ" ⇒ accepted 3 "D397BBD1578C758") ∷
+    ("ĆÀż" ⇒ accepted 3 "D39D7BAF5DEC758") ∷ ("ÀĆŽ" ⇒ refuse 3 2) ∷ ("ƁĆż" ⇒ refuse 3 2) ∷ []
+
+-- pairs, digits held across Ź, digits left over, and switches while a digit is held
+unfoldable pub everyPair : List Label
+everyPair =
+    ("Ć12" ⇒ accepted 2 "D396726763AC") ∷ ("Ć1Ź2" ⇒ accepted 3 "D39EBACE72CC758") ∷ ("ĆŹ12" ⇒ accepted 3 "D39EBACE72CC758") ∷
+    ("Ć1ŹŹ2" ⇒ accepted 4 "D39EBBD759C88D8EB") ∷ ("Ć1ŹŹŹ2" ⇒ accepted 5 "D39EBBD77AEB391BB1D6") ∷ ("ĆŹ1Ź2" ⇒ accepted 4 "D39EBBD759C88D8EB") ∷
+    ("ĆŹŹ1Ź2" ⇒ accepted 5 "D39EBBD77AEB391BB1D6") ∷ ("Ć12Ź" ⇒ accepted 3 "D39673D759CC758") ∷ ("ĆŹ1Ź2Ź" ⇒ accepted 5 "D39EBBD759CF5DB1B1D6") ∷
+    ("Ć1Ź234" ⇒ accepted 4 "D39EBACE458E998EB") ∷ ("Ć1Ź23Ź4" ⇒ accepted 5 "D39EBACE7AE8B1D1B1D6") ∷ ("Ć12Ź34" ⇒ accepted 4 "D39673D7458C498EB") ∷
+    ("Ć12Ź3Ź4" ⇒ accepted 5 "D39673D77AE8B16E31D6") ∷ ("Ć1ŹŹ23ŹŹ4Ź" ⇒ accepted 8 "D39EBBD759CF5DEBA2C7AE9CD8EB") ∷ ("Ć0Ź0" ⇒ accepted 3 "D39EBB6666CC758") ∷
+    ("Ć9Ź9" ⇒ accepted 3 "D39EBAEF5E2C758") ∷ ("Ć00" ⇒ accepted 2 "D39B333363AC") ∷ ("Ć99" ⇒ accepted 2 "D3977BAF63AC") ∷ ("Ć09" ⇒ accepted 2 "D399231263AC") ∷
+    ("Ć90" ⇒ accepted 2 "D39BDABC63AC") ∷ ("ƁĆ1ŹŹ2" ⇒ accepted 5 "D2177BD77AEB398A31D6") ∷ ("ƁĆ1Ź2Ɓ" ⇒ accepted 5 "D2177BD759CBDD9731D6") ∷
+    ("Ć1Ź2ÀA" ⇒ accepted 5 "D39EBACE75EA31DDB1D6") ∷ ("Ć1Ź2Ɓa" ⇒ accepted 5 "D39EBACE5EE9616131D6") ∷ ("Ć1234567890" ⇒ accepted 6 "D396722C716C29BDA7963AC") ∷
+    ("Ć1" ⇒ refuse 3 2) ∷ ("Ć123" ⇒ refuse 3 4) ∷ ("Ć12345" ⇒ refuse 3 6) ∷ ("Ć1Ź" ⇒ refuse 3 3) ∷ ("Ć1ŹŹ" ⇒ refuse 3 4) ∷ ("Ć1Ź23" ⇒ refuse 3 5) ∷
+    ("Ć12Ź3" ⇒ refuse 3 5) ∷ ("Ć12Ź3Ź" ⇒ refuse 3 6) ∷ ("Ć1ŹÀ" ⇒ refuse 3 3) ∷ ("Ć1ŹƁ2" ⇒ refuse 3 3) ∷ ("Ć1ŹĆ2" ⇒ refuse 3 3) ∷ ("Ć1ŹA" ⇒ refuse 3 3) ∷
+    ("Ć1A" ⇒ refuse 3 2) ∷ ("Ć1 2" ⇒ refuse 3 2) ∷ ("ĆA1" ⇒ refuse 3 1) ∷ ("Ć-1" ⇒ refuse 3 1) ∷ ("Ć1/" ⇒ refuse 3 2) ∷ ("Ć1:" ⇒ refuse 3 2) ∷ ("Ć/" ⇒ refuse 3 1) ∷
+    ("Ć:" ⇒ refuse 3 1) ∷ ("Ć12a" ⇒ refuse 3 3) ∷ ("Ć1a2" ⇒ refuse 3 2) ∷ ("Ć1Ź2a" ⇒ refuse 3 4) ∷ ("ÀĆ1" ⇒ refuse 3 3) ∷ ("ÀĆ1Ź" ⇒ refuse 3 4) ∷
+    ("ƁĆ1Ź2Ź3" ⇒ refuse 3 7) ∷ []
+
+-- digits that are not ASCII
+unfoldable pub foreignDigits : List Example
+foreignDigits =
+    (0x106 ∷ 0x661 ∷ 0x662 ∷ [] into 2829 gives refuse 3 1) ∷ (0x106 ∷ 0x661 ∷ 0x31 ∷ 0x32 ∷ [] into 2829 gives refuse 3 1) ∷
+    (0x106 ∷ 0x31 ∷ 0x661 ∷ [] into 2829 gives refuse 3 2) ∷ (0x106 ∷ 0xFF11 ∷ 0xFF12 ∷ [] into 2829 gives refuse 3 1) ∷
+    (0x106 ∷ 0x31 ∷ 0xFF12 ∷ [] into 2829 gives refuse 3 2) ∷ (0x106 ∷ 0xFF11 ∷ 0x32 ∷ [] into 2829 gives refuse 3 1) ∷
+    (0x106 ∷ 0x967 ∷ 0x968 ∷ [] into 2829 gives refuse 3 1) ∷ (0x106 ∷ 0xB2 ∷ 0xB3 ∷ [] into 2829 gives refuse 3 1) ∷
+    (0x106 ∷ 0x31 ∷ 0xB2 ∷ [] into 2829 gives refuse 3 2) ∷ (0x106 ∷ 0x1D7CF ∷ 0x32 ∷ [] into 2829 gives refuse 3 1) ∷
+    (0xC0 ∷ 0x661 ∷ [] into 2829 gives refuse 3 1) ∷ (0xC0 ∷ 0xB2 ∷ [] into 2829 gives refuse 3 1) ∷ (0x181 ∷ 0xFF11 ∷ [] into 2829 gives refuse 3 1) ∷
+    (0x181 ∷ 0x2460 ∷ [] into 2829 gives refuse 3 1) ∷ (0x661 ∷ 0x31 ∷ [] into 2829 gives refuse 3 0) ∷ []
+
+-- what a label may begin with, and Error::Length; 41 300 is A with a combining accent, not À
+unfoldable pub firstPoints : List Example
+firstPoints =
+    ([] into 2829 gives refuse 2 0) ∷ (0x0 ∷ [] into 2829 gives refuse 2 0) ∷ (0x30 ∷ [] into 2829 gives refuse 2 0) ∷ (0x41 ∷ [] into 2829 gives refuse 2 0) ∷
+    (0x7F ∷ [] into 2829 gives refuse 2 0) ∷ (0x80 ∷ [] into 2829 gives refuse 3 0) ∷ (0xC0 ∷ [] into 2829 gives accepted 1 "D09B331D6") ∷
+    (0x106 ∷ [] into 2829 gives accepted 1 "D3999B1D6") ∷ (0x181 ∷ [] into 2829 gives accepted 1 "D219B31D6") ∷ (0xF7 ∷ [] into 2829 gives refuse 3 0) ∷
+    (0x179 ∷ [] into 2829 gives refuse 3 0) ∷ (0x7FF ∷ [] into 2829 gives refuse 3 0) ∷ (0x800 ∷ [] into 2829 gives refuse 3 0) ∷
+    (0xFFFF ∷ [] into 2829 gives refuse 3 0) ∷ (0x10000 ∷ [] into 2829 gives refuse 3 0) ∷ (0x10FFFF ∷ [] into 2829 gives refuse 3 0) ∷
+    (0x41 ∷ 0x41 ∷ [] into 2829 gives refuse 3 0) ∷ (0x31 ∷ 0x32 ∷ [] into 2829 gives refuse 3 0) ∷ (0x41 ∷ 0xC0 ∷ [] into 2829 gives refuse 3 0) ∷
+    (0x179 ∷ 0xC0 ∷ [] into 2829 gives refuse 3 0) ∷ (0x20 ∷ 0xC0 ∷ [] into 2829 gives refuse 3 0) ∷ (0xFEFF ∷ 0xC0 ∷ [] into 2829 gives refuse 3 0) ∷
+    (0x41 ∷ 0x300 ∷ [] into 2829 gives refuse 3 0) ∷ []
+
+-- the labels of the crate's documentation, those of b, and others of everyday use
+unfoldable pub documented : List Label
+documented =
+    ("ƁHE1234A*1" ⇒ accepted 10 "D218A2344E6CE597327518C8939A8F63AC") ∷ ("ÀHE@$AĆ123456" ⇒ accepted 10 "D098A234636919462EF59C8B1C5A2F63AC") ∷
+    ("À\u{6}" ⇒ accepted 2 "D09612C263AC") ∷ ("ÀHELLO" ⇒ accepted 6 "D098A23446E8DD1DB4463AC") ∷ ("ÀXYĆ2199" ⇒ accepted 6 "D09C5BB45DEDC977A7663AC") ∷
+    ("ƁxyZÀ199!*1" ⇒ accepted 11 "D21E4B6F762EBD39B9672CCD9912734BCC758") ∷ ("ƁŹ4218402050À0" ⇒ accepted 14 "D21EBB276729CDD33274ECCE53B3724ECEBD3B28C63AC") ∷
+    ("ÀB\u{6}" ⇒ accepted 3 "D09162C24D0C758") ∷ ("ÀPJJ123C" ⇒ accepted 8 "D09DDADC5B89CD9CB2E446EB18EB") ∷ ("ƁAIM" ⇒ accepted 4 "D21463115D8BB18EB") ∷
+    ("ƁAIMĆ1234" ⇒ accepted 7 "D21463115D8BBD6722C794C758") ∷ ("ƁWikipedia" ⇒ accepted 10 "D21D1A1A6128694F2C84268692C3C963AC") ∷
+    ("ĆŹ0012345678901234567890" ⇒ accepted 13 "D39EBB6659C8B1C5B0A6F6B391638B614DED9D31D6") ∷
+    ("ĆŹ0109501101530003Ɓ" ⇒ accepted 11 "D39EBB36648C5D893366EED99262F7622C758") ∷ ("Ɓ-Rattle 0.1-" ⇒ accepted 13 "D21373174B09E93D328590D993B2674E69B9C5B1D6") ∷ []
+
+-- one random label of each length from 2 to 40
+unfoldable pub randomly : List Label
+randomly =
+    ("ÀŻ" ⇒ accepted 2 "D0978AF163AC") ∷ ("À\u{8}\u{1a}" ⇒ accepted 3 "D0930B7B5C6C758") ∷ ("Ɓ6ż5" ⇒ accepted 4 "D219D2F76E4A798EB") ∷
+    ("Ɓ$ź3&" ⇒ accepted 5 "D21233D465C9910CB1D6") ∷ ("ĆƁ<UJ'" ⇒ accepted 6 "D397BB9A6EEB713122663AC") ∷ ("Àź9Ɓ#D3" ⇒ accepted 7 "D09EA3965EE9316232E636C758") ∷
+    ("Ć1Ź18Ź0Ź" ⇒ accepted 6 "D39EBB127AEA79EBB9363AC") ∷ ("ƁŻ<AÀƁOŻ^" ⇒ accepted 9 "D2178B9A518EBD7BA3B5E2F15B1B1D6") ∷
+    ("À!V\u{1c}ŹG;G-\t" ⇒ accepted 10 "D099B3AC578F5DA23B26889B90D37263AC") ∷ ("ƁŽŻ,= ÷(÷źŻ" ⇒ accepted 11 "D21E8AF159CE65B32F4464BD1EA2F1768C758") ∷
+    ("À^ź\u{1b}ŽŹŻżHFƁ[" ⇒ accepted 12 "D09E2BD47B6F45EBAF175EC5118AF771A9798EB") ∷ ("ƁĆ03ÀźƁtż3[e^" ⇒ accepted 12 "D2177A4C75EF517BA7A5EECB9C6AC878AE998EB") ∷
+    ("Ć64968229Ź02À?" ⇒ accepted 9 "D39432F149EE65EBB3375ED8D1A31D6") ∷
+    ("ĆƁ÷&,ŻÀ)\u{16}\u{e}\u{b}1\u{3}ƁŻ" ⇒ accepted 15 "D397BAF44C8B3978BAF648F49853094E68597BAF14C2C758") ∷
+    ("À&ź'#\u{5}%źŽ\u{5}\u{f}\u{2}5Ć49" ⇒ accepted 15 "D09323D44C4931642267A8F456423D486DC977B47476C758") ∷
+    ("ÀŻ\u{1b}I\n70\rĆŹÀ\u{1d}:Y%ŽƁ" ⇒ accepted 17 "D0978BDB622865DBA767BABBDEBBAF51EE4DDA2267A2BDD9131D6") ∷
+    ("ƁŻŹ$G\"ŻcŻxŻlŻ÷32żt" ⇒ accepted 18 "D2178BD748CD1199AF142CBC5E4AF1650BC57A32E672BDD3D27663AC") ∷
+    ("Ć986Ź51Ź323ŹŹ562820" ⇒ accepted 12 "D39E8BD74B0F5D373B77AEF5DC5B9A64ED118EB") ∷
+    ("Ć7Ź73Ź247590560À\u{1a}QƁŹ" ⇒ accepted 14 "D39EBBDD7AEC6D1DB8D44CEF5D7B7B68EBDDEBB0A63AC") ∷
+    ("Ć1Ź6ÀŽ\u{11}>\u{3}ŻƁŹ÷ŽźĆ1Ź7ÀŻ" ⇒ accepted 19 "D39EBA7675EF452F36C42CBC57BBD75E8F45EA2EF7AE9CDD7AF178AC758") ∷
+    ("Ɓ?Ź?y7Jl÷;(%\\÷zŻŹ0÷À7\u{14}" ⇒ accepted 22 "D21B1BD76C6DBDDBADC650BD1D923244CEF57A37B5E2F5D3B2F475EEDD3D2F163AC") ∷
+    ("Ɓ&ŹgŻ/hÀ\u{19}\u{15}%\u{6}Ž\u{10}Vź?*Ɓź#>÷" ⇒ accepted 23 "D21323D74D0BC57326175EDBD3CA26584F454F3AC7A8D8D912F77A8931B62F4650C758") ∷
+    ("ÀŽ/Y-ż\u{13}OV\u{1a}źSUF\u{19}ź\u{14}Ž>Ć96ƁL" ⇒ accepted 23 "D09E8AE67689B9D7AF2476EB1BDBD46E8DDD18B6F7A89E9E8B6C5DEBC57BA37530C758") ∷
+    ("ƁŻ1÷jżź!vż7TÀ\u{7}*\u{3}UO\u{1e}#Ć4Ź5Ź" ⇒ accepted 24 "D2178A735E88657BBD466CF497BBB76E2EBD3432242CDDD1DA2F498BBDEBAEC7AE8BD8EB") ∷
+    ("À8ŹĆ910158À\u{19}7ż\u{e}ŽĆ2Ź50Ź827À" ⇒ accepted 20 "D09D33D75DEF6D9B3B175EDBDDBBAF614F4577BD772CF5D193B275E8BD8EB") ∷
+    ("ÀźFT2*^\u{e}6\u{16}\rŻCOD\u{10}Ź\u{b}\u{13}XT\u{16}Ɓd^ÀŻ" ⇒ accepted 27 "D09EA2316E2CE5913C5614CE9E93DD5E288D1DAC453CF5D84AF2716DC5E92F7426F15D7AF176EC758") ∷
+    ("Ɓ}Ź÷$Źż'qHhŽS I1Ź0Ou%:Vźwul-" ⇒ accepted 28 "D2147BD75E8919EBAF74C49798A2617A2DD1B33114E6F5D3B23B4F2899C9BAC7A8F293CB284DC90D8EB") ∷
+    ("Ć11686Ź35ŹŹ26851ÀIQƁQ[tZŹŽrN÷" ⇒ accepted 23 "D39892137AEA61EBBD76E284DBA3AF622D1D7BB4771A9E9D8BD77A293D71AF445EC758") ∷
+    ("Ć51987Ź9Ɓź82`Żcźl~|)ż143ŽŻŽ÷'A" ⇒ accepted 27 "D39BA3D17AE8F57BBD474CCE5432F142CF519422F578C917BA7364ECB9E8AF17A2BD13128C45EC758") ∷
+    ("Ć63754389Ź53849Ź5À]\u{1f}M\u{6}\u{15}żź88Ɓż7ż" ⇒ accepted 24 "D394C30958EDBDEBB774F4F5D7A3AF642BD1762C24F2EBDEA3A674CBDD7BBB75EEC898EB") ∷
+    ("ÀQ?Žź8\"\u{1f}\"żM:_\u{f})Ɓc |%ÀƁWV÷÷6fCy&)" ⇒ accepted 32 "D09A3B637A2F51D33335E8CCDD7AEC726A611EB245EE859B32BC44CEBD7BBA3758BD17A33A58488DB7A64648D998EB") ∷
+    ("ƁżŹfpoĆ213Ź274ÀH\u{6}Ž\u{1d}&H1(NĆ55426816" ⇒ accepted 26 "D217BBD7584A791EAEF6E4F5D8DA1975EC51613D151E9918A273464B8D77BA35B884D3B26763AC") ∷
+    ("ÀZŹ\u{8}?Ɓ~cżWźŻQgź÷ż%tPuŻsgŻż'ź-TbŻ8{"
+    ⇒ accepted 34 "D09D8BD74C2D8D7BA2F42CBDDD1BD45E2D1D343D45E8BDD1327A7769E578AF24D0BC57BA627A89B9B8A435E2E99EDBD163AC") ∷
+    ("À\u{6}BŹŽ\u{13}CźEI\u{1a}\rŻ#2\"%\u{3}O^źĆ0893À6+ŹƁzÀWK"
+    ⇒ accepted 33 "D096122C7AEF45792237A88D188B7B7BABC5263396668990B23B78AF5177A3251EEBD9D3127AEBDDBDBAF746B1D0CB1D6") ∷
+    ("Ć5845783994023167Ź8Ź1604Ź45Ź9Ɓ|4<+nŻ" ⇒ accepted 24 "D39D8AEC614D1117B336C6859EBBD74BCEF5EBA377AEE357BABC64EE698930A5E2A618EB") ∷
+    ("Ć1527Ź269Ź7197273ƁK}a|`)gŻYV:~ŹŹŹQx 3" ⇒ accepted 30 "D39733B27AEE4DEBBD465C9850D2F758EA3D2C2BC50CC91342F1768EB1C9A2F7AEF5DEBB47792D999726463AC") ∷
+    ("Ɓźs:Ź5{źJ`Yn@u;Ž3YŻ/r-mKyź_S3ŽkTA~O/Y]"
+    ⇒ accepted 38 "D21EA2F2726F5DB93DB7A8B71433B4614C6D3CBB27A2CB9DA2F15CC93D373DD58EDBDEA2986E8CB9E8B096E2A3117A3B5CCED190A3B63AC") ∷
+    ("ƁYE)`ŹAl&bVĆ1348ŹÀ\u{1b}6ŻŽźź\u{18}ƁÀI\u{19}8ŹŻƁ``'Fa9"
+    ⇒ accepted 37 "D21DA234648A19EBA8C65099121BAC5DE9B9DDBD775EF6D9D2F17A2F51EA3C95EEEBD88B6F74CF5D78AF750CA19312314B0E59B8B1D6") ∷
+    ("ƁźWŽ>+(}-4B1T*8À\u{c}Y\tƁÀŻ#źR,Ż[\u{8}\u{f}\u{1}\u{14}\u{17}ź\u{3}@\u{14} \u{3}\n"
+    ⇒ accepted 40 "D21EA3A37A2DB18923251E9B993A2C4E6DC5913A675ECA1DA21A5EEEBD78A4C7A8C5D672F171A9851EA584F4F29EA2166369E9B32164328BD8EB") ∷ []
+
+-- random labels with one code point changed, so that they are refused
+unfoldable pub randomlyWrong : List Label
+randomlyWrong =
+    ("ÀŽÀ" ⇒ refuse 3 2) ∷ ("Àć\u{1b}Ć" ⇒ refuse 3 1) ∷ ("ÀćNP\"" ⇒ refuse 3 1) ∷ ("À.ƁÀwp" ⇒ refuse 3 4) ∷ ("À,\t\u{1}\u{1e}ć#" ⇒ refuse 3 5) ∷
+    ("ĆÀ \u{7f}Mź\u{17}ż" ⇒ refuse 3 3) ∷ ("À=Eć]U#(Ź" ⇒ refuse 3 3) ∷ ("À-À+E\u{2}$,Ż\n" ⇒ refuse 3 2) ∷ ("ĆƁ÷żżP7W#\u{7f}Ć" ⇒ refuse 3 9) ∷
+    ("ĆƁ\u{7f}Ć48413160" ⇒ refuse 3 2) ∷ ("ƁŻŽ9GnXÀ/]Ź:€" ⇒ refuse 3 12) ∷ ("ĆƁM'y=ż÷hź9Aż\u{7f}" ⇒ refuse 3 13) ∷ ("À€ź\u{16}Ź%Ɓms÷À \u{1f}ŹQ" ⇒ refuse 3 1) ∷
+    ("À^\u{7f}#%F3B'Ż?ƁżŹŽż" ⇒ refuse 3 2) ∷ ("À\t ć=UŽ\u{19}[$WŽ\u{1c}Ć2Ź1" ⇒ refuse 3 3) ∷ ("ÀL\u{1}.żQ/Ż#ć$Ć315998" ⇒ refuse 3 9) ∷
+    ("ÀżŹQMŹC,\"Ż-\u{16}PĆŹ:X\r0" ⇒ refuse 3 15) ∷ ("Ɓ.:af)x÷5À9]\u{13}ć828237" ⇒ refuse 3 13) ∷ ("Ć3ŹŹ082ÀŽ\u{16}[ŻORŽƁ\u{7f}8?\":" ⇒ refuse 3 16) ∷
+    ("ÀÀ^<ŽŽĆŹ355Ź55Ź45Ź451Ɓ" ⇒ refuse 3 1) ∷ ("Ćć:" ⇒ refuse 3 1) ∷ ("ÀĆ\u{3}1" ⇒ refuse 3 2) ∷ ("ƁŹÀGÀ" ⇒ refuse 3 4) ∷ ("À\u{19}^ŽƁ\u{2}" ⇒ refuse 3 5) ∷
+    ("ÀŹĆ\"/ż\u{13}" ⇒ refuse 3 3) ∷ ("ÀŹ\u{1b}N\0ƁćL" ⇒ refuse 3 6) ∷ ("Ć336ŹŹ85À" ⇒ refuse 3 8) ∷ ("Ɓ`mFIsm\"ÀÀ" ⇒ refuse 3 9) ∷
+    ("À)BĆ58ƁZ<\u{7f}F" ⇒ refuse 3 9) ∷ ("ƁDżĆŻi÷n.ŹCD" ⇒ refuse 3 4) ∷ []
+
+-- for each of the checks 0, 1, 64, 95, 96, 99, 101 and 102, one label of each START
+unfoldable pub checksOn : List Label
+checksOn =
+    ("À " ⇒ accepted 2 "D09B336663AC") ∷ ("ƁK5+Ć" ⇒ accepted 5 "D2163B72624BBDB331D6") ∷ ("ĆÀ" ⇒ accepted 2 "D39D7B6663AC") ∷ ("À!" ⇒ accepted 2 "D099B33663AC") ∷
+    ("ƁvÀ\u{1e}\u{10}<" ⇒ accepted 6 "D21E93AF45EA79CD33663AC") ∷ ("ĆŹ" ⇒ accepted 2 "D39EBB3663AC") ∷ ("ÀŻ\u{e}\u{8}\"" ⇒ accepted 5 "D0978B0A4C2CCD4331D6") ∷
+    ("ƁÀ\t\u{1d}F\u{13}" ⇒ accepted 6 "D21D7A1A51E8C57928663AC") ∷ ("Ć071Ź9" ⇒ accepted 4 "D39313D765CA198EB") ∷ ("ÀźŹ" ⇒ accepted 3 "D09EA3D75E8C758") ∷
+    ("Ɓżż" ⇒ accepted 3 "D217BAF75E8C758") ∷ ("ĆÀĆ" ⇒ accepted 3 "D39D7AEF5E8C758") ∷ ("ÀŻ" ⇒ accepted 2 "D0978AF163AC") ∷ ("ƁRj" ⇒ accepted 3 "D218BA195E2C758") ∷
+    ("ĆÀźD" ⇒ accepted 4 "D39D7BD4588BC58EB") ∷ ("ÀĆ" ⇒ accepted 2 "D0977AEF63AC") ∷ ("ƁŽ" ⇒ accepted 2 "D21E8AEF63AC") ∷ ("Ć97" ⇒ accepted 2 "D39EA2EF63AC") ∷
+    ("ÀŹ)ŽŹ" ⇒ accepted 5 "D09EBB247A2F5DD7B1D6") ∷ ("Ɓż" ⇒ accepted 2 "D217BBAF63AC") ∷ ("ĆƁŻ4żŻ" ⇒ accepted 6 "D397BAF164EBDD78BAF63AC") ∷
+    ("À_\u{7}" ⇒ accepted 3 "D094C2687AEC758") ∷ ("ƁÀ" ⇒ accepted 2 "D21D7BD763AC") ∷ ("ĆƁ" ⇒ accepted 2 "D397BBD763AC") ∷ []
+
+-- Every code point below 512 and 7FF, 800, D7FF, E000, FFFF, 10000 and 10FFFF, put between two
+-- texts: those that are not refused 3 at that place, in their order. The crate was run on all other
+-- code points up to 10FFFF too, and refuses each with Error::Character.
+unfoldable pub sweeps : List Sweep
+sweeps =
+    (swept "" "A" 0 (points "ÀĆƁ")) ∷ (swept "À" "" 1 (count 0 96 ++ points "ĆŹźŻżŽƁ")) ∷ (swept "Ɓ" "" 1 (count 32 95 ++ points "À÷ĆŹźŻżŽ")) ∷
+    (swept "Ć" "" 1 (points "0123456789ÀŹƁ")) ∷ (swept "Ć1" "" 2 (points "0123456789Ź")) ∷ (swept "ÀĆ1Ź" "2" 4 (points "0123456789Ź")) ∷ []
+
+-- ---- d. read
+
+-- rows that the crate wrote, read into a buffer just long enough; the symbols are the places of the
+-- row's blocks in the crate's `CHARS`
+unfoldable pub readBack : List Example
+readBack =
+    (rowOf 2 "D0978AF163AC" into 2 gives accept 2 (103 ∷ 96 ∷ [])) ∷ (rowOf 3 "D0930B7B5C6C758" into 3 gives accept 3 (103 ∷ 72 ∷ 90 ∷ [])) ∷
+    (rowOf 4 "D219D2F76E4A798EB" into 4 gives accept 4 (104 ∷ 22 ∷ 100 ∷ 21 ∷ [])) ∷
+    (rowOf 5 "D21233D465C9910CB1D6" into 5 gives accept 5 (104 ∷ 4 ∷ 97 ∷ 19 ∷ 6 ∷ [])) ∷
+    (rowOf 6 "D397BB9A6EEB713122663AC" into 6 gives accept 6 (105 ∷ 100 ∷ 28 ∷ 53 ∷ 42 ∷ 7 ∷ [])) ∷
+    (rowOf 7 "D09EA3965EE9316232E636C758" into 7 gives accept 7 (103 ∷ 97 ∷ 25 ∷ 100 ∷ 3 ∷ 36 ∷ 19 ∷ [])) ∷
+    (rowOf 9 "D2178B9A518EBD7BA3B5E2F15B1B1D6" into 9 gives accept 9 (104 ∷ 96 ∷ 28 ∷ 33 ∷ 101 ∷ 100 ∷ 47 ∷ 96 ∷ 62 ∷ [])) ∷
+    (rowOf 10 "D099B3AC578F5DA23B26889B90D37263AC" into 10 gives accept 10 (103 ∷ 1 ∷ 54 ∷ 92 ∷ 102 ∷ 39 ∷ 27 ∷ 39 ∷ 13 ∷ 73 ∷ [])) ∷
+    (rowOf 12 "D09E2BD47B6F45EBAF175EC5118AF771A9798EB" into 12 gives accept 12 (103 ∷ 62 ∷ 97 ∷ 91 ∷ 98 ∷ 102 ∷ 96 ∷ 101 ∷ 40 ∷ 38 ∷ 100 ∷ 59 ∷ [])) ∷
+    (rowOf 15 "D397BAF44C8B3978BAF648F49853094E68597BAF14C2C758" into 15
+    gives accept 15 (105 ∷ 100 ∷ 95 ∷ 6 ∷ 12 ∷ 96 ∷ 101 ∷ 9 ∷ 86 ∷ 78 ∷ 75 ∷ 17 ∷ 67 ∷ 100 ∷ 96 ∷ [])) ∷
+    (rowOf 18 "D2178BD748CD1199AF142CBC5E4AF1650BC57A32E672BDD3D27663AC" into 18
+    gives accept 18 (104 ∷ 96 ∷ 102 ∷ 4 ∷ 39 ∷ 2 ∷ 96 ∷ 67 ∷ 96 ∷ 88 ∷ 96 ∷ 76 ∷ 96 ∷ 95 ∷ 19 ∷ 18 ∷ 100 ∷ 84 ∷ [])) ∷
+    (rowOf 20 "D09D33D75DEF6D9B3B175EDBDDBBAF614F4577BD772CF5D193B275E8BD8EB" into 20
+    gives accept 20 (103 ∷ 24 ∷ 102 ∷ 99 ∷ 91 ∷ 1 ∷ 58 ∷ 101 ∷ 89 ∷ 23 ∷ 101 ∷ 78 ∷ 98 ∷ 99 ∷ 102 ∷ 25 ∷ 102 ∷ 8 ∷ 27 ∷ 101 ∷ [])) ∷ []
+
+-- Refusals 10 and 11, by hand: a row has 11(n+1)+13 cells with 1 ≤ n ≤ 255, and 11 gives the place
+-- of the first cell neither 0 nor 1.
+unfoldable pub readLengths : List Example
+readLengths =
+    ([] into 255 gives refuse 10 0) ∷ (replicate 24 1 into 255 gives refuse 10 24) ∷ (replicate 34 0 into 255 gives refuse 10 34) ∷
+    (replicate 36 0 into 255 gives refuse 10 36) ∷ (replicate 47 1 into 255 gives refuse 10 47) ∷ (replicate 2829 1 into 255 gives refuse 12 0) ∷
+    (replicate 2830 1 into 255 gives refuse 10 2830) ∷ (replicate 2840 1 into 255 gives refuse 10 2840) ∷ (replicate 34 2 into 0 gives refuse 10 34) ∷
+    (replicate 35 2 into 0 gives refuse 11 0) ∷ (replicate 35 255 into 255 gives refuse 11 0) ∷ (replicate 34 0 ++ (2 ∷ []) into 255 gives refuse 11 34) ∷
+    (replicate 2828 0 ++ (3 ∷ []) into 255 gives refuse 11 2828) ∷ (cellsOf "11010000100 11011001100 110001110101" into 255 gives refuse 10 34) ∷
+    (cellsOf "11010000100 11011001100 11000111010111" into 255 gives refuse 10 36) ∷ (cellsOf "11010000100 1100011101011" into 255 gives refuse 10 24) ∷
+    (cellsOf "11010000100 11021001100 1100011101011" into 255 gives refuse 11 14) ∷ (cellsOf "00000000000 11011001102 1100011101011" into 255 gives refuse 11 21) ∷
+    (cellsOf "10100011000 11010000100 1100011101012" into 255 gives refuse 11 34) ∷ (cellsOf "11010000100 11011001100 2100011101011" into 0 gives refuse 11 22) ∷
+    (cellsOf "21010000100 11011301100 1100011101011" into 255 gives refuse 11 0) ∷
+    (cellsOf "11010000100 10111011110 12111011110 1102011101011" into 255 gives refuse 11 23) ∷ []
+
+-- Refusals 12 and 13, by hand: the first block from the left that is no pattern, or that is not a
+-- START at block 0, or that is above 102 after it. They come before 15, 14 and 5.
+unfoldable pub readBlocks : List Example
+readBlocks =
+    (cellsOf "11010000101 11011001100 1100011101011" into 255 gives refuse 12 0) ∷ (cellsOf "00000000000 11011001100 1100011101011" into 255 gives refuse 12 0) ∷
+    (cellsOf "11111111111 11011001100 1100011101011" into 255 gives refuse 12 0) ∷ (cellsOf "11000111010 11011001100 1100011101011" into 255 gives refuse 12 0) ∷
+    (cellsOf "00100001011 11011001100 1100011101011" into 255 gives refuse 12 0) ∷ (cellsOf "11010000100 11010001100 1100011101011" into 255 gives refuse 12 1) ∷
+    (cellsOf "11010000100 11000111010 1100011101011" into 255 gives refuse 12 1) ∷
+    (cellsOf "11010011100 11110011100 10011001110 1100011101011" into 255 gives refuse 12 1) ∷
+    (cellsOf "11010011100 10110011100 00000000000 1100011101011" into 255 gives refuse 12 2) ∷
+    (cellsOf "11010011100 10110011100 10011001100 1100011101011" into 255 gives refuse 12 2) ∷
+    (cellsOf "11010010000 10100011000 11000100010 11111111111 10111011000 1100011101011" into 255 gives refuse 12 3) ∷
+    (cellsOf "11010010000 10100011000 11000100010 10111011000 11111111111 1100011101011" into 0 gives refuse 12 4) ∷
+    (cellsOf "11011001100 11011001100 1100011101011" into 255 gives refuse 13 0) ∷ (cellsOf "11110101110 11011001100 1100011101011" into 255 gives refuse 13 0) ∷
+    (cellsOf "10100011000 11000100010 10111011000 1100011101011" into 255 gives refuse 13 0) ∷
+    (cellsOf "11010000100 11010000100 1100011101011" into 255 gives refuse 13 1) ∷ (cellsOf "11010000100 11010010000 1100011101011" into 255 gives refuse 13 1) ∷
+    (cellsOf "11010011100 11010000100 10011001110 1100011101011" into 255 gives refuse 13 1) ∷
+    (cellsOf "11010011100 10110011100 11010000100 1100011101011" into 255 gives refuse 13 2) ∷
+    (cellsOf "11010011100 10110011100 11010011100 1100011101011" into 255 gives refuse 13 2) ∷
+    (cellsOf "11010010000 10100011000 11010010000 10111011000 10111011000 1100011101011" into 255 gives refuse 13 2) ∷
+    (cellsOf "11010010000 10100011000 11000100010 10111011000 11010010000 1100011101011" into 0 gives refuse 13 4) ∷
+    (cellsOf "00000000000 11010000100 1100011101011" into 255 gives refuse 12 0) ∷ (cellsOf "10100011000 00000000000 1100011101011" into 255 gives refuse 13 0) ∷
+    (cellsOf "11010011100 00000000000 11010000100 1100011101011" into 255 gives refuse 12 1) ∷
+    (cellsOf "11010011100 11010000100 00000000000 1100011101011" into 255 gives refuse 13 1) ∷
+    (cellsOf "11010010000 10100011000 00000000000 11010000100 10111011000 1100011101011" into 255 gives refuse 12 2) ∷
+    (cellsOf "11010010000 10100011000 11010000100 00000000000 10111011000 1100011101011" into 255 gives refuse 13 2) ∷
+    (cellsOf "11010000100 11010000100 0000000000000" into 255 gives refuse 13 1) ∷ (cellsOf "11010000100 00000000000 0000000000000" into 255 gives refuse 12 1) ∷
+    (cellsOf "10100011000 11011001100 0100011101011" into 255 gives refuse 13 0) ∷ []
+
+-- Refusal 15, by hand: it gives the place in the row of the first wrong cell of the last 13.
+unfoldable pub readStops : List Example
+readStops =
+    (cellsOf "11010000100 11011001100 0100011101011" into 255 gives refuse 15 22) ∷ (cellsOf "11010000100 11011001100 1000011101011" into 255 gives refuse 15 23) ∷
+    (cellsOf "11010000100 11011001100 1110011101011" into 255 gives refuse 15 24) ∷ (cellsOf "11010000100 11011001100 1101011101011" into 255 gives refuse 15 25) ∷
+    (cellsOf "11010000100 11011001100 1100111101011" into 255 gives refuse 15 26) ∷ (cellsOf "11010000100 11011001100 1100001101011" into 255 gives refuse 15 27) ∷
+    (cellsOf "11010000100 11011001100 1100010101011" into 255 gives refuse 15 28) ∷ (cellsOf "11010000100 11011001100 1100011001011" into 255 gives refuse 15 29) ∷
+    (cellsOf "11010000100 11011001100 1100011111011" into 255 gives refuse 15 30) ∷ (cellsOf "11010000100 11011001100 1100011100011" into 255 gives refuse 15 31) ∷
+    (cellsOf "11010000100 11011001100 1100011101111" into 255 gives refuse 15 32) ∷ (cellsOf "11010000100 11011001100 1100011101001" into 255 gives refuse 15 33) ∷
+    (cellsOf "11010000100 11011001100 1100011101010" into 255 gives refuse 15 34) ∷
+    (cellsOf "11010011100 10110011100 10011001110 0100011101011" into 255 gives refuse 15 33) ∷
+    (cellsOf "11010011100 10110011100 10011001110 1100010101011" into 255 gives refuse 15 39) ∷
+    (cellsOf "11010011100 10110011100 10011001110 1100011101010" into 255 gives refuse 15 45) ∷
+    (cellsOf "11010000100 11011001100 0000000000000" into 255 gives refuse 15 22) ∷ (cellsOf "11010000100 11011001100 1111111111111" into 255 gives refuse 15 24) ∷
+    (cellsOf "11010000100 11011001100 1101000010011" into 255 gives refuse 15 25) ∷ (cellsOf "11010000100 11011001100 1101011100011" into 255 gives refuse 15 25) ∷
+    (cellsOf "11010000100 11011001100 1100001101010" into 255 gives refuse 15 27) ∷
+    (cellsOf "11010000100 11011001100 1100011101011 00000000000" into 255 gives refuse 12 2) ∷
+    (cellsOf "11010000100 11011001100 11000111010 1100011101011" into 255 gives refuse 12 2) ∷
+    (cellsOf "11010000100 11001101100 1100011101010" into 255 gives refuse 15 34) ∷
+    (cellsOf "11010011100 10110011100 10111001100 1000011101011" into 0 gives refuse 15 34) ∷
+    (cellsOf "11010010000 11011001100 1100011101001" into 255 gives refuse 15 33) ∷ []
+
+-- Refusal 14 with the right check number, refusal 5 with n, and rows that are accepted, by hand.
+unfoldable pub readChecks : List Example
+readChecks =
+    (cellsOf "11010000100 11001101100 1100011101011" into 255 gives refuse 14 0) ∷ (cellsOf "11010000100 11110101110 1100011101011" into 255 gives refuse 14 0) ∷
+    (cellsOf "11010010000 11011001100 1100011101011" into 255 gives refuse 14 1) ∷ (cellsOf "11010011100 11011001100 1100011101011" into 255 gives refuse 14 2) ∷
+    (cellsOf "11010011100 10110011100 10011011100 1100011101011" into 255 gives refuse 14 14) ∷
+    (cellsOf "11010011100 10110011100 10111001100 1100011101011" into 0 gives refuse 14 14) ∷
+    (cellsOf "11010011100 10011011100 10011001110 1100011101011" into 255 gives refuse 14 15) ∷
+    (cellsOf "11010010000 10110011100 10011001110 1100011101011" into 255 gives refuse 14 13) ∷
+    (cellsOf "11010000100 10110011100 10011001110 1100011101011" into 255 gives refuse 14 12) ∷
+    (cellsOf "11010011100 10111011110 10111011110 1100011101011" into 255 gives refuse 14 101) ∷
+    (cellsOf "11010010000 10100011000 11000100010 10111011000 10001101110 1100011101011" into 255 gives refuse 14 45) ∷
+    (cellsOf "11010010000 11000100010 10100011000 10111011000 10111011000 1100011101011" into 255 gives refuse 14 37) ∷
+    (cellsOf "11010010000 10100011000 11000100010 10111011000 10111011110 10110011100 10001011000 11110100100 1100011101011" into 6 gives refuse 14 87) ∷
+    (cellsOf "11010011100 11110101110 10110011100 11101001100 1100011101011" into 255 gives refuse 14 25) ∷
+    (cellsOf "11010000100 11011001100 1100011101011" into 0 gives refuse 5 1) ∷ (cellsOf "11010000100 11011001100 1100011101011" into 1 gives accept 1 (103 ∷ [])) ∷
+    (cellsOf "11010010000 11001101100 1100011101011" into 1 gives accept 1 (104 ∷ [])) ∷
+    (cellsOf "11010011100 11001100110 1100011101011" into 1 gives accept 1 (105 ∷ [])) ∷
+    (cellsOf "11010000100 11011001100 1100011101011" into 2829 gives accept 1 (103 ∷ [])) ∷
+    (cellsOf "11010011100 10110011100 10011001110 1100011101011" into 1 gives refuse 5 2) ∷
+    (cellsOf "11010011100 10110011100 10011001110 1100011101011" into 2 gives accept 2 (105 ∷ 12 ∷ [])) ∷
+    (cellsOf "11010011100 11110101110 10110011100 11100101100 1100011101011" into 2 gives refuse 5 3) ∷
+    (cellsOf "11010011100 11110101110 10110011100 11100101100 1100011101011" into 3 gives accept 3 (105 ∷ 102 ∷ 12 ∷ [])) ∷
+    (cellsOf "11010010000 10100011000 11000100010 10111011000 10111011000 1100011101011" into 3 gives refuse 5 4) ∷
+    (cellsOf "11010010000 10100011000 11000100010 10111011000 10111011000 1100011101011" into 4 gives accept 4 (104 ∷ 33 ∷ 41 ∷ 45 ∷ [])) ∷
+    (cellsOf "11010010000 10100011000 11000100010 10111011000 10111011110 10110011100 10001011000 11110010100 1100011101011" into 7
+    gives accept 7 (104 ∷ 33 ∷ 41 ∷ 45 ∷ 99 ∷ 12 ∷ 34 ∷ [])) ∷
+    (cellsOf "11010010000 11110100010 10111011110 1100011101011" into 2 gives accept 2 (104 ∷ 98 ∷ [])) ∷
+    (cellsOf "11010010000 10111101000 10111100010 1100011101011" into 2 gives accept 2 (104 ∷ 95 ∷ [])) ∷
+    (cellsOf "11010000100 10111011110 10110011100 11001001110 1100011101011" into 3 gives accept 3 (103 ∷ 99 ∷ 12 ∷ [])) ∷
+    (cellsOf "11010000100 11101110110 10110111000 10110111000 10011100110 11001110010 11001011100 10001000110 11101011000 1100011101011" into 8
+    gives accept 8 (103 ∷ 48 ∷ 42 ∷ 42 ∷ 17 ∷ 18 ∷ 19 ∷ 35 ∷ [])) ∷ []
+
+-- The longest row, put together from the crate's patterns; model.py computed the check.
+unfoldable pub readLong : List Example
+readLong =
+    (cellsOf "11010010000" ++ (times 254 (cellsOf "10100011000") ++ cellsOf "10010111100 1100011101011") into 255 gives accept 255 (104 ∷ replicate 254 33)) ∷ []
+
+-- ---- e. spell, scan and draw
+
+-- Symbol lists, the label that spell writes and the bytes that scan sends, by hand from document
+-- 01; the row is what the crate writes for that label. Each job gets a buffer just long enough.
+unfoldable pub lists : List Listed
+lists =
+    ((103 ∷ []) spells "À" scans "" draws "D09B331D6") ∷ ((104 ∷ []) spells "Ɓ" scans "" draws "D219B31D6") ∷ ((105 ∷ []) spells "Ć" scans "" draws "D3999B1D6") ∷
+    ((103 ∷ 0 ∷ []) spells "À " scans " " draws "D09B336663AC") ∷ ((103 ∷ 33 ∷ []) spells "ÀA" scans "A" draws "D094628C63AC") ∷
+    ((103 ∷ 63 ∷ []) spells "À_" scans "_" draws "D094C29863AC") ∷ ((103 ∷ 64 ∷ []) spells "À\0" scans "\0" draws "D094328663AC") ∷
+    ((103 ∷ 95 ∷ []) spells "À\u{1f}" scans "\u{1f}" draws "D097A2F463AC") ∷ ((103 ∷ 96 ∷ []) spells "ÀŻ" scans "" draws "D0978AF163AC") ∷
+    ((103 ∷ 97 ∷ []) spells "Àź" scans "" draws "D09EA3D463AC") ∷ ((103 ∷ 98 ∷ []) spells "ÀŽ" scans "" draws "D09E8BD163AC") ∷
+    ((103 ∷ 99 ∷ []) spells "ÀĆ" scans "" draws "D0977AEF63AC") ∷ ((103 ∷ 100 ∷ []) spells "ÀƁ" scans "" draws "D097BAF763AC") ∷
+    ((103 ∷ 101 ∷ []) spells "Àż" scans "" draws "D09D7BAF63AC") ∷ ((103 ∷ 102 ∷ []) spells "ÀŹ" scans "" draws "D09EBBD763AC") ∷
+    ((104 ∷ 0 ∷ []) spells "Ɓ " scans " " draws "D21B333663AC") ∷ ((104 ∷ 33 ∷ []) spells "ƁA" scans "A" draws "D214622C63AC") ∷
+    ((104 ∷ 63 ∷ []) spells "Ɓ_" scans "_" draws "D214C28663AC") ∷ ((104 ∷ 64 ∷ []) spells "Ɓ`" scans "`" draws "D214325863AC") ∷
+    ((104 ∷ 94 ∷ []) spells "Ɓ~" scans "~" draws "D2117AF463AC") ∷ ((104 ∷ 95 ∷ []) spells "Ɓ÷" scans "\u{7f}" draws "D217A2F163AC") ∷
+    ((104 ∷ 96 ∷ []) spells "ƁŻ" scans "" draws "D2178BD463AC") ∷ ((104 ∷ 97 ∷ []) spells "Ɓź" scans "" draws "D21EA3D163AC") ∷
+    ((104 ∷ 98 ∷ []) spells "ƁŽ" scans "" draws "D21E8AEF63AC") ∷ ((104 ∷ 99 ∷ []) spells "ƁĆ" scans "" draws "D2177AF763AC") ∷
+    ((104 ∷ 100 ∷ []) spells "Ɓż" scans "" draws "D217BBAF63AC") ∷ ((104 ∷ 101 ∷ []) spells "ƁÀ" scans "" draws "D21D7BD763AC") ∷
+    ((104 ∷ 102 ∷ []) spells "ƁŹ" scans "" draws "D21EBB6663AC") ∷ ((105 ∷ 0 ∷ []) spells "Ć00" scans "00" draws "D39B333363AC") ∷
+    ((105 ∷ 5 ∷ []) spells "Ć05" scans "05" draws "D391326263AC") ∷ ((105 ∷ 10 ∷ []) spells "Ć10" scans "10" draws "D39912CE63AC") ∷
+    ((105 ∷ 33 ∷ []) spells "Ć33" scans "33" draws "D394622363AC") ∷ ((105 ∷ 95 ∷ []) spells "Ć95" scans "95" draws "D397A3D463AC") ∷
+    ((105 ∷ 96 ∷ []) spells "Ć96" scans "96" draws "D3978BD163AC") ∷ ((105 ∷ 98 ∷ []) spells "Ć98" scans "98" draws "D39E8AF763AC") ∷
+    ((105 ∷ 99 ∷ []) spells "Ć99" scans "99" draws "D3977BAF63AC") ∷ ((105 ∷ 100 ∷ []) spells "ĆƁ" scans "" draws "D397BBD763AC") ∷
+    ((105 ∷ 101 ∷ []) spells "ĆÀ" scans "" draws "D39D7B6663AC") ∷ ((105 ∷ 102 ∷ []) spells "ĆŹ" scans "" draws "D39EBB3663AC") ∷
+    ((105 ∷ 99 ∷ 99 ∷ 99 ∷ []) spells "Ć999999" scans "999999" draws "D3977AEF5DE9798EB") ∷
+    ((103 ∷ 99 ∷ 99 ∷ []) spells "ÀĆ99" scans "99" draws "D0977AEF7B6C758") ∷
+    ((104 ∷ 99 ∷ 99 ∷ 100 ∷ 99 ∷ 12 ∷ []) spells "ƁĆ99ƁĆ12" scans "9912" draws "D2177AEF5EEBBD673A663AC") ∷
+    ((103 ∷ 100 ∷ 65 ∷ []) spells "ÀƁa" scans "a" draws "D097BA5874CC758") ∷ ((103 ∷ 100 ∷ 100 ∷ 65 ∷ []) spells "ÀƁża" scans "a" draws "D097BAF74B0BC98EB") ∷
+    ((103 ∷ 100 ∷ 101 ∷ 65 ∷ []) spells "ÀƁÀ\u{1}" scans "\u{1}" draws "D097BBAF4B09E58EB") ∷
+    ((103 ∷ 101 ∷ 65 ∷ []) spells "Àż\u{1}" scans "\u{1}" draws "D09D7A5872CC758") ∷
+    ((104 ∷ 101 ∷ 65 ∷ []) spells "ƁÀ\u{1}" scans "\u{1}" draws "D21D7A58726C758") ∷
+    ((104 ∷ 101 ∷ 101 ∷ 65 ∷ []) spells "ƁÀż\u{1}" scans "\u{1}" draws "D21D7BAF4B0F298EB") ∷
+    ((104 ∷ 101 ∷ 100 ∷ 65 ∷ []) spells "ƁÀƁa" scans "a" draws "D21D7AF74B09E58EB") ∷ ((104 ∷ 100 ∷ 65 ∷ []) spells "Ɓża" scans "a" draws "D217BA5872CC758") ∷
+    ((105 ∷ 100 ∷ 65 ∷ []) spells "ĆƁa" scans "a" draws "D397BA58726C758") ∷ ((105 ∷ 101 ∷ 65 ∷ []) spells "ĆÀ\u{1}" scans "\u{1}" draws "D39D7A58764C758") ∷
+    ((105 ∷ 100 ∷ 100 ∷ 12 ∷ []) spells "ĆƁż," scans "," draws "D397BAF759CE658EB") ∷
+    ((105 ∷ 101 ∷ 101 ∷ 12 ∷ []) spells "ĆÀż," scans "," draws "D39D7BAF59CC6D8EB") ∷
+    ((105 ∷ 100 ∷ 101 ∷ 99 ∷ 65 ∷ []) spells "ĆƁÀĆ65" scans "65" draws "D397BBAF5DE9611A31D6") ∷
+    ((105 ∷ 101 ∷ 100 ∷ 99 ∷ 65 ∷ []) spells "ĆÀƁĆ65" scans "65" draws "D39D7AF75DE9616231D6") ∷
+    ((103 ∷ 99 ∷ 100 ∷ 101 ∷ 95 ∷ []) spells "ÀĆƁÀ\u{1f}" scans "\u{1f}" draws "D0977AF775EBD1D1B1D6") ∷
+    ((103 ∷ 99 ∷ 100 ∷ 95 ∷ []) spells "ÀĆƁ÷" scans "\u{7f}" draws "D0977AF75E8B218EB") ∷
+    ((103 ∷ 98 ∷ 65 ∷ []) spells "ÀŽ\u{1}" scans "\u{1}" draws "D09E8A58674C758") ∷ ((104 ∷ 98 ∷ 65 ∷ []) spells "ƁŽa" scans "a" draws "D21E8A5876EC758") ∷
+    ((103 ∷ 98 ∷ 99 ∷ 98 ∷ []) spells "ÀŽĆ98" scans "98" draws "D09E8AEF7A2C258EB") ∷
+    ((103 ∷ 102 ∷ 33 ∷ 102 ∷ []) spells "ÀŹAŹ" scans "A" draws "D09EBA8C7AEF158EB") ∷
+    ((104 ∷ 96 ∷ 65 ∷ 97 ∷ []) spells "ƁŻaź" scans "a" draws "D2178A587A89318EB") ∷ ((105 ∷ 102 ∷ 12 ∷ []) spells "ĆŹ12" scans "12" draws "D39EBACE72CC758") ∷
+    ((105 ∷ 12 ∷ 102 ∷ []) spells "Ć12Ź" scans "12" draws "D39673D759CC758") ∷
+    ((105 ∷ 102 ∷ 102 ∷ 12 ∷ 102 ∷ 34 ∷ []) spells "ĆŹŹ12Ź34" scans "1234" draws "D39EBBD759CF5D163D163AC") ∷
+    ((105 ∷ 12 ∷ 102 ∷ 34 ∷ []) spells "Ć12Ź34" scans "1234" draws "D39673D7458C498EB") ∷
+    ((104 ∷ 102 ∷ 95 ∷ 99 ∷ 102 ∷ 95 ∷ 101 ∷ 95 ∷ []) spells "ƁŹ÷ĆŹ95À\u{1f}" scans "\u{7f}95\u{1f}" draws "D21EBAF45DEF5D7A3AF5E890D8EB") ∷
+    ((104 ∷ 33 ∷ 41 ∷ 45 ∷ 99 ∷ 12 ∷ 34 ∷ []) spells "ƁAIMĆ1234" scans "AIM1234" draws "D21463115D8BBD6722C794C758") ∷
+    ((103 ∷ 48 ∷ 42 ∷ 42 ∷ 17 ∷ 18 ∷ 19 ∷ 35 ∷ []) spells "ÀPJJ123C" scans "PJJ123C" draws "D09DDADC5B89CD9CB2E446EB18EB") ∷
+    ((105 ∷ 102 ∷ 0 ∷ 12 ∷ 34 ∷ 56 ∷ 78 ∷ 90 ∷ 12 ∷ 34 ∷ 56 ∷ 78 ∷ 100 ∷ 16 ∷ []) spells "ĆŹ00123456789012345678Ɓ0" scans "001234567890123456780"
+    draws "D39EBB6659C8B1C5B0A6F6B391638B614BDD3B31163AC") ∷ []
+
+-- "Draw, spell, scan: 10, 13, 5.", by hand; the three jobs give the same answers.
+unfoldable pub badLists : List Example
+badLists =
+    ([] into 0 gives refuse 10 0) ∷ ([] into 2829 gives refuse 10 0) ∷ (103 ∷ replicate 255 33 into 2829 gives refuse 10 256) ∷
+    (replicate 256 106 into 0 gives refuse 10 256) ∷ (replicate 300 0 into 2829 gives refuse 10 300) ∷ (0 ∷ [] into 2829 gives refuse 13 0) ∷
+    (33 ∷ [] into 2829 gives refuse 13 0) ∷ (99 ∷ [] into 0 gives refuse 13 0) ∷ (102 ∷ [] into 2829 gives refuse 13 0) ∷ (106 ∷ [] into 2829 gives refuse 13 0) ∷
+    (255 ∷ [] into 0 gives refuse 13 0) ∷ (102 ∷ 103 ∷ [] into 2829 gives refuse 13 0) ∷ (106 ∷ 106 ∷ [] into 2829 gives refuse 13 0) ∷
+    (103 ∷ 103 ∷ [] into 2829 gives refuse 13 1) ∷ (103 ∷ 104 ∷ 105 ∷ [] into 2829 gives refuse 13 1) ∷ (105 ∷ 106 ∷ [] into 0 gives refuse 13 1) ∷
+    (104 ∷ 255 ∷ [] into 2829 gives refuse 13 1) ∷ (104 ∷ 102 ∷ 103 ∷ [] into 2829 gives refuse 13 2) ∷ (104 ∷ 33 ∷ 41 ∷ 105 ∷ 255 ∷ [] into 0 gives refuse 13 3) ∷
+    (105 ∷ 99 ∷ 98 ∷ 97 ∷ 106 ∷ [] into 2829 gives refuse 13 4) ∷ (104 ∷ replicate 253 33 ++ (103 ∷ []) into 2829 gives refuse 13 254) ∷
+    (0 ∷ replicate 254 33 into 0 gives refuse 13 0) ∷ (replicate 255 103 into 2829 gives refuse 13 1) ∷ []
+
+-- Refusal 5 of draw, by hand: a row has 11(n+1)+13 cells.
+unfoldable pub drawShort : List Example
+drawShort =
+    (103 ∷ [] into 0 gives refuse 5 35) ∷ (103 ∷ [] into 34 gives refuse 5 35) ∷ (105 ∷ 12 ∷ [] into 45 gives refuse 5 46) ∷
+    (104 ∷ 33 ∷ 41 ∷ 45 ∷ [] into 67 gives refuse 5 68) ∷ (104 ∷ replicate 254 33 into 2828 gives refuse 5 2829) ∷ []
+
+-- Refusal 5 of spell, by hand, and "At most 1 + 2·254 = 509 code points."
+unfoldable pub spellShort : List Example
+spellShort =
+    (103 ∷ [] into 0 gives refuse 5 1) ∷ (105 ∷ [] into 0 gives refuse 5 1) ∷ (105 ∷ 12 ∷ [] into 2 gives refuse 5 3) ∷ (105 ∷ 102 ∷ [] into 1 gives refuse 5 2) ∷
+    (104 ∷ 33 ∷ 41 ∷ 45 ∷ [] into 3 gives refuse 5 4) ∷ (103 ∷ 99 ∷ 12 ∷ [] into 3 gives refuse 5 4) ∷ (105 ∷ replicate 254 0 into 508 gives refuse 5 509) ∷
+    (105 ∷ replicate 254 0 into 509 gives accept 509 (Ć ∷ replicate 508 48)) ∷ []
+
+-- Refusal 5 of scan, by hand, and empty buffers where nothing is sent.
+unfoldable pub scanShort : List Example
+scanShort =
+    (103 ∷ [] into 0 gives accept 0 ([])) ∷ (103 ∷ 98 ∷ 102 ∷ [] into 0 gives accept 0 ([])) ∷ (105 ∷ 12 ∷ [] into 1 gives refuse 5 2) ∷
+    (105 ∷ 12 ∷ [] into 0 gives refuse 5 2) ∷ (104 ∷ 33 ∷ 41 ∷ 45 ∷ [] into 2 gives refuse 5 3) ∷ (104 ∷ 33 ∷ 102 ∷ [] into 0 gives refuse 5 1) ∷
+    (104 ∷ 33 ∷ 102 ∷ [] into 1 gives accept 1 (65 ∷ [])) ∷ (105 ∷ replicate 254 0 into 507 gives refuse 5 508) ∷
+    (105 ∷ replicate 254 0 into 508 gives accept 508 (replicate 508 48)) ∷ []
+
+-- ---- f. the row record
+
+-- By hand from "Row record" and "Pack: 10, 11, 5". The first rows are those of "The label program",
+-- written with eight cells together.
+unfoldable pub packings : List Example
+packings =
+    (cellsOf "11010000 10011011 00110011 00011101 011" into 7 gives accept 7 (bytesOf "01 01 D0 9B 33 1D 60")) ∷
+    (cellsOf "11010000 10011011 00110011 00011101 011" into 6 gives refuse 5 7) ∷ (cellsOf "11010000 10011011 00110011 00011101 011" into 0 gives refuse 5 7) ∷
+    (cellsOf "11010000 10011011 00110011 00011101 011" into 2829 gives accept 7 (bytesOf "01 01 D0 9B 33 1D 60")) ∷
+    (cellsOf "11010011 10010110 01110010 01100111 01100011 101011" into 8 gives accept 8 (bytesOf "01 02 D3 96 72 67 63 AC")) ∷
+    (cellsOf "11010011 10010110 01110010 01100111 01100011 101011" into 7 gives refuse 5 8) ∷
+    (replicate 35 0 into 7 gives accept 7 (bytesOf "01 01 00 00 00 00 00")) ∷ (replicate 35 1 into 7 gives accept 7 (bytesOf "01 01 FF FF FF FF E0")) ∷
+    (replicate 34 0 ++ (1 ∷ []) into 7 gives accept 7 (bytesOf "01 01 00 00 00 00 20")) ∷
+    (1 ∷ replicate 34 0 into 7 gives accept 7 (bytesOf "01 01 80 00 00 00 00")) ∷
+    (cellsOf "00000001 00000010 00000100 00001000 000" into 7 gives accept 7 (bytesOf "01 01 01 02 04 08 00")) ∷
+    (cellsOf "10101010 01010101 11110000 00001111 101" into 7 gives accept 7 (bytesOf "01 01 AA 55 F0 0F A0")) ∷
+    (replicate 112 1 into 16 gives accept 16 (bytesOf "01 08 FF FF FF FF FF FF FF FF FF FF FF FF FF FF")) ∷ ([] into 2829 gives refuse 10 0) ∷
+    (replicate 24 1 into 2829 gives refuse 10 24) ∷ (replicate 34 2 into 0 gives refuse 10 34) ∷ (replicate 36 0 into 2829 gives refuse 10 36) ∷
+    (replicate 40 0 into 2829 gives refuse 10 40) ∷ (replicate 2830 0 into 2829 gives refuse 10 2830) ∷ (replicate 2840 0 into 2829 gives refuse 10 2840) ∷
+    (replicate 35 2 into 0 gives refuse 11 0) ∷ (replicate 34 0 ++ (2 ∷ []) into 0 gives refuse 11 34) ∷ (replicate 46 1 into 0 gives refuse 5 8) ∷
+    (cellsOf "11010000 10011211 00110011 00011101 091" into 2829 gives refuse 11 13) ∷ (255 ∷ replicate 34 7 into 7 gives refuse 11 0) ∷
+    (replicate 2829 0 into 355 gives refuse 5 356) ∷ (replicate 2829 1 into 356 gives accept 356 (1 ∷ 255 ∷ replicate 353 255 ++ (0xF8 ∷ []))) ∷ []
+
+-- By hand from "Row record" and "Unpack: 20, 21, 22, 23, 5": each spare bit, count 0, one byte too
+-- few and one too many, and the versions 0, 2, 3 and 255.
+unfoldable pub unpackings : List Example
+unpackings =
+    (bytesOf "01 01 D0 9B 33 1D 60" into 35 gives accept 35 (cellsOf "11010000100110110011001100011101011")) ∷
+    (bytesOf "01 01 D0 9B 33 1D 60" into 34 gives refuse 5 35) ∷
+    (bytesOf "01 02 D3 96 72 67 63 AC" into 46 gives accept 46 (cellsOf "1101001110010110011100100110011101100011101011")) ∷
+    (bytesOf "01 02 D3 96 72 67 63 AC" into 45 gives refuse 5 46) ∷ (bytesOf "01 01 D0 9B 33 1D 61" into 2829 gives refuse 23 6) ∷
+    (bytesOf "01 01 D0 9B 33 1D 62" into 2829 gives refuse 23 6) ∷ (bytesOf "01 01 D0 9B 33 1D 64" into 2829 gives refuse 23 6) ∷
+    (bytesOf "01 01 D0 9B 33 1D 68" into 2829 gives refuse 23 6) ∷ (bytesOf "01 01 D0 9B 33 1D 70" into 2829 gives refuse 23 6) ∷
+    (bytesOf "01 01 D0 9B 33 1D 7F" into 2829 gives refuse 23 6) ∷ (bytesOf "01 02 D3 96 72 67 63 AD" into 2829 gives refuse 23 7) ∷
+    (bytesOf "01 02 D3 96 72 67 63 AE" into 2829 gives refuse 23 7) ∷ (bytesOf "01 02 D3 96 72 67 63 AF" into 2829 gives refuse 23 7) ∷
+    (bytesOf "01 01 D0 9B 33 1D 61" into 0 gives refuse 23 6) ∷
+    (bytesOf "01 01 00 00 00 00 20" into 35 gives accept 35 (cellsOf "00000000000000000000000000000000001")) ∷
+    (bytesOf "01 01 80 00 00 00 00" into 35 gives accept 35 (cellsOf "10000000000000000000000000000000000")) ∷
+    (bytesOf "01 01 FF FF FF FF E0" into 35 gives accept 35 (replicate 35 1)) ∷ (bytesOf "01 01 FF FF FF FF FF" into 35 gives refuse 23 6) ∷
+    (bytesOf "01 01 01 02 04 08 00" into 35 gives accept 35 (cellsOf "00000001000000100000010000001000000")) ∷
+    (bytesOf "01 08 FF FF FF FF FF FF FF FF FF FF FF FF FF FF" into 112 gives accept 112 (replicate 112 1)) ∷
+    (bytesOf "01 08 FF FF FF FF FF FF FF FF FF FF FF FF FF FF" into 111 gives refuse 5 112) ∷
+    (bytesOf "01 08 FF FF FF FF FF FF FF FF FF FF FF FF FF FF FF" into 112 gives refuse 22 16) ∷ ([] into 2829 gives refuse 20 0) ∷
+    (0 ∷ [] into 0 gives refuse 20 1) ∷ (2 ∷ [] into 2829 gives refuse 20 1) ∷ (bytesOf "00 01 D0 9B 33 1D 60" into 35 gives refuse 21 0) ∷
+    (bytesOf "02 01 D0 9B 33 1D 60" into 35 gives refuse 21 2) ∷ (bytesOf "FF 01 D0 9B 33 1D 60" into 0 gives refuse 21 255) ∷
+    (bytesOf "02 00" into 35 gives refuse 21 2) ∷ (bytesOf "00 00" into 35 gives refuse 21 0) ∷ (bytesOf "03 01 D0 9B 33 1D 61" into 35 gives refuse 21 3) ∷
+    (bytesOf "01 00 00" into 35 gives refuse 22 0) ∷ (bytesOf "01 00 00 00 00" into 35 gives refuse 22 0) ∷ (bytesOf "01 00 FF FF FF" into 0 gives refuse 22 0) ∷
+    (bytesOf "01 01" into 35 gives refuse 22 7) ∷ (bytesOf "01 01 D0 9B 33 1D" into 35 gives refuse 22 7) ∷
+    (bytesOf "01 01 D0 9B 33 1D 60 00" into 35 gives refuse 22 7) ∷ (bytesOf "01 01 D0 9B 33 1D 60 FF" into 0 gives refuse 22 7) ∷
+    (bytesOf "01 02 D0 9B 33 1D 60" into 46 gives refuse 22 8) ∷ (bytesOf "01 01 D3 96 72 67 63 AC" into 46 gives refuse 22 7) ∷
+    (bytesOf "01 01 D0 9B 33 1D" into 0 gives refuse 22 7) ∷ (bytesOf "01 03" into 0 gives refuse 22 10) ∷ (bytesOf "01 08" into 0 gives refuse 22 16) ∷
+    (bytesOf "01 FE" into 2829 gives refuse 22 355) ∷ (bytesOf "01 FF" into 2829 gives refuse 22 356) ∷ (1 ∷ 255 ∷ replicate 353 0 into 2829 gives refuse 22 356) ∷
+    (1 ∷ 255 ∷ replicate 355 0 into 2829 gives refuse 22 356) ∷ (1 ∷ 255 ∷ replicate 354 0 into 2828 gives refuse 5 2829) ∷
+    (1 ∷ 255 ∷ replicate 353 0 ++ (4 ∷ []) into 2829 gives refuse 23 355) ∷
+    (1 ∷ 255 ∷ replicate 353 255 ++ (0xF8 ∷ []) into 2829 gives accept 2829 (replicate 2829 1)) ∷ []
+
+-- ---- g. Ź inside a pair
+
+-- By hand from "every Ź standing between the two digits of a set C pair is moved ahead of that
+-- pair" (demand 3). The crate writes the same row for both labels of an entry. Digits outside set C
+-- are no pairs, and a Ź before a pair or after it stays. Labels in which a first digit has no
+-- second are left out: the sentence says nothing about them, and encode refuses them.
+unfoldable pub settling : List Settled
+settling =
+    ("Ć1Ź2" becomes "ĆŹ12") ∷ ("Ć1ŹŹ2" becomes "ĆŹŹ12") ∷ ("Ć1ŹŹŹ2" becomes "ĆŹŹŹ12") ∷ ("ĆŹ1Ź2Ź" becomes "ĆŹŹ12Ź") ∷ ("Ć12Ź3Ź4" becomes "Ć12ŹŹ34") ∷
+    ("Ć1Ź23Ź4" becomes "ĆŹ12Ź34") ∷ ("Ć1ŹŹ23ŹŹŹ4" becomes "ĆŹŹ12ŹŹŹ34") ∷ ("ÀĆ1Ź2" becomes "ÀĆŹ12") ∷ ("ÀAŹĆ9Ź9ÀŹA" becomes "ÀAŹĆŹ99ÀŹA") ∷
+    ("Ɓ1Ź2Ć1Ź2" becomes "Ɓ1Ź2ĆŹ12") ∷ ("Ć1Ź2Ɓ1Ź2" becomes "ĆŹ12Ɓ1Ź2") ∷ ("Ć1Ź2ÀĆ3Ź4" becomes "ĆŹ12ÀĆŹ34") ∷ ("Ć12345Ź6" becomes "Ć1234Ź56") ∷
+    ("Ć0Ź00Ź0" becomes "ĆŹ00Ź00") ∷ (stays "") ∷ (stays "À") ∷ (stays "Ć") ∷ (stays "1Ź2") ∷ (stays "1Ź2Ć34") ∷ (stays "ĆŹ12") ∷ (stays "Ć12") ∷ (stays "Ć12Ź") ∷
+    (stays "Ć12Ź34") ∷ (stays "ĆŹŹ12ŹŹ") ∷ (stays "À1Ź2") ∷ (stays "Ɓ1Ź2") ∷ (stays "ÀAŹ1Ź2") ∷ (stays "Ć12Ɓ1Ź2") ∷ (stays "Ć12À1Ź2") ∷ (stays "ĆŹ") ∷
+    (stays "ƁŽ1Ź2") ∷ (stays "ĆƁ1Ź2") ∷ (stays "ÀĆŹ1234Ź") ∷ []
+
+-- ---- h. the lent buffer
+
+-- By hand from "An accepted call fills the front of its buffer and answers 0 with a number", "Bytes
+-- or numbers behind that are unchanged" and "A refusal changes no lent memory". An entry has a job,
+-- its input and the buffer before the call, and then the answer number, the second number and the
+-- buffer after the call.
+unfoldable pub buffers : List Buffer
+buffers =
+    (calls encode (points "À") (replicate 37 7) 0 1 (cellsOf "11010000100110110011001100011101011" ++ (7 ∷ 7 ∷ []))) ∷
+    (calls encode (points "À") (replicate 35 9) 0 1 (cellsOf "11010000100110110011001100011101011")) ∷
+    (calls encode (points "À") (replicate 34 9) 5 35 (replicate 34 9)) ∷ (calls encode (points "Ć1") (4 ∷ 5 ∷ 6 ∷ []) 3 2 (4 ∷ 5 ∷ 6 ∷ [])) ∷
+    (calls draw (105 ∷ 2 ∷ []) (3 ∷ []) 5 46 (3 ∷ [])) ∷ (calls read (cellsOf "11010000100110110011001100011101011") (1 ∷ 2 ∷ 3 ∷ []) 0 1 (103 ∷ 2 ∷ 3 ∷ [])) ∷
+    (calls read (cellsOf "11010000100110110011001100011101010") (1 ∷ 2 ∷ 3 ∷ []) 15 34 (1 ∷ 2 ∷ 3 ∷ [])) ∷
+    (calls spell (105 ∷ 12 ∷ []) (8 ∷ 8 ∷ 8 ∷ 8 ∷ 8 ∷ []) 0 3 (Ć ∷ 49 ∷ 50 ∷ 8 ∷ 8 ∷ [])) ∷
+    (calls scan (105 ∷ 12 ∷ []) (8 ∷ 8 ∷ 8 ∷ 8 ∷ 8 ∷ []) 0 2 (49 ∷ 50 ∷ 8 ∷ 8 ∷ 8 ∷ [])) ∷ (calls scan (103 ∷ []) (8 ∷ 9 ∷ []) 0 0 (8 ∷ 9 ∷ [])) ∷
+    (calls scan (103 ∷ 106 ∷ []) (8 ∷ 9 ∷ []) 13 1 (8 ∷ 9 ∷ [])) ∷
+    (calls pack (replicate 35 1) (0 ∷ 0 ∷ 0 ∷ 0 ∷ 0 ∷ 0 ∷ 0 ∷ 77 ∷ []) 0 7 (bytesOf "01 01 FF FF FF FF E0 4D")) ∷
+    (calls unpack (bytesOf "01 01 00 00 00 00 00") (replicate 36 5) 0 35 (replicate 35 0 ++ (5 ∷ []))) ∷ (calls unpack (bytesOf "01 00") (6 ∷ []) 22 0 (6 ∷ [])) ∷ []
+
+-- ---- i. one block drawn over
+
+-- By hand: refusal 13 where the new number may not stand; an acceptance at the data places 103 and
+-- 206, whose weight is 0 modulo 103; and otherwise refusal 14 with the check of the changed list.
+unfoldable pub redrawings : List Redrawn
+redrawings =
+    ((103 ∷ []) at 0 drawn 104 gives refuse 14 1) ∷ ((103 ∷ []) at 0 drawn 105 gives refuse 14 2) ∷ ((103 ∷ []) at 0 drawn 0 gives refuse 13 0) ∷
+    ((103 ∷ []) at 0 drawn 102 gives refuse 13 0) ∷ ((103 ∷ []) at 1 drawn 1 gives refuse 14 0) ∷ ((103 ∷ []) at 1 drawn 102 gives refuse 14 0) ∷
+    ((103 ∷ []) at 1 drawn 103 gives refuse 13 1) ∷ ((105 ∷ 12 ∷ []) at 0 drawn 103 gives refuse 14 12) ∷ ((105 ∷ 12 ∷ []) at 0 drawn 104 gives refuse 14 13) ∷
+    ((105 ∷ 12 ∷ []) at 0 drawn 14 gives refuse 13 0) ∷ ((105 ∷ 12 ∷ []) at 1 drawn 13 gives refuse 14 15) ∷ ((105 ∷ 12 ∷ []) at 1 drawn 102 gives refuse 14 1) ∷
+    ((105 ∷ 12 ∷ []) at 1 drawn 105 gives refuse 13 1) ∷ ((105 ∷ 12 ∷ []) at 2 drawn 12 gives refuse 14 14) ∷ ((105 ∷ 12 ∷ []) at 2 drawn 105 gives refuse 13 2) ∷
+    ((104 ∷ 33 ∷ 41 ∷ 45 ∷ []) at 2 drawn 42 gives refuse 14 47) ∷ ((104 ∷ 33 ∷ 41 ∷ 45 ∷ []) at 3 drawn 0 gives refuse 14 13) ∷
+    ((104 ∷ 33 ∷ 41 ∷ 45 ∷ []) at 4 drawn 104 gives refuse 13 4) ∷
+    ((104 ∷ replicate 103 33) at 103 drawn 65 gives accept 104 (104 ∷ replicate 102 33 ++ (65 ∷ []))) ∷
+    ((104 ∷ replicate 102 33) at 103 drawn 65 gives refuse 14 1) ∷ ((104 ∷ replicate 206 33) at 206 drawn 0 gives accept 207 (104 ∷ replicate 205 33 ++ (0 ∷ []))) ∷ []
+
+-- a proof by computation names this on its `unfolding` line: it opens every definition above
+unfoldable pub examples-computes : Unit {0}
+unfolding digit16 digits16 cellsOf fours rowOf accepted pairs16 bytesOf elevens joined times asked given parsedAs printedAs tried passesAt those passing kept threeJobs threeAnswers settles settled ruled twice gave called left unstarred unstarredRecords longest order published publishedRows crateChars crateStop crateWidths crateBars everyNumber everySwitch everyFunction everyPair foreignDigits firstPoints documented randomly randomlyWrong checksOn sweeps readBack readLengths readBlocks readStops readChecks readLong lists badLists drawShort spellShort scanShort packings unpackings settling buffers redrawings settle-computes chars-computes rules-computes damage-computes
+examples-computes = tt

@@ -1,0 +1,2 @@
+pub mod Vets
+pub mod Shaping

@@ -1,0 +1,37 @@
+-- The crate's `CharacterSet` is the paper's code set.
+-- Assumes nothing.
+use Prim.Native.Nat.{ℕ}
+use mathlib.Core.Option.{Option, none, some}
+use lib.Dec.{eqb}
+use Rattle.helpers.specs.Answers.{if_then_else_}
+use Rattle.paper.specs.Iso15417 as Iso
+use Rattle.paper.specs.Iso15417.{Set}
+use Rattle.paper.specs.Crate.{À, Ɓ, Ć}
+use Rattle.tokens.specs.declared.CharacterSet.{CharacterSet}
+use Rattle.tokens.specs.declared.CharacterSet.the-variants.{A, B, C, None}
+use Rattle.tokens.specs.declared.Lookup.{Lookup}
+use Rattle.tokens.specs.declared.Lookup.the-variants.{Unit, Nothing}
+
+-- the set of a case
+unfoldable pub setOf : CharacterSet → Set
+setOf A = Iso.A
+setOf B = Iso.B
+setOf C = Iso.C
+setOf None = Iso.before
+
+-- "À U+00C0, set A, 103; Ɓ U+0181, set B, 104; Ć U+0106, set C, 105": the set that a code point
+-- names
+unfoldable pub named : ℕ → Set
+named c = if eqb c À then Iso.A else if eqb c Ɓ then Iso.B else if eqb c Ć then Iso.C else Iso.before
+
+-- and the START of a set
+unfoldable pub startOf : Set → ℕ
+startOf Iso.before = 0
+startOf Iso.A = 103
+startOf Iso.B = 104
+startOf Iso.C = 105
+
+-- what `lookup` answers
+unfoldable pub numbered : Lookup → Option ℕ
+numbered (Unit m) = some m
+numbered Nothing = none
