@@ -1,10 +1,11 @@
-//! Finds the static library that this crate stands on, and says plainly what to run where it is not there.
+//! Finds the static library that this crate calls. If it is missing, says what to run.
 use std::env;
 use std::path::PathBuf;
 
 fn main() {
     println!("cargo:rerun-if-env-changed=SLATMONIEF_LIB_DIR");
-    let here = PathBuf::from(env::var("CARGO_MANIFEST_DIR").expect("cargo sets CARGO_MANIFEST_DIR"));
+    let here =
+        PathBuf::from(env::var("CARGO_MANIFEST_DIR").expect("cargo sets CARGO_MANIFEST_DIR"));
     let folder = match env::var("SLATMONIEF_LIB_DIR") {
         Ok(folder) => PathBuf::from(folder),
         Err(_) => here.join("../../target/staticlib"),
@@ -12,9 +13,11 @@ fn main() {
     let library = folder.join("libslatmonief.a");
     println!("cargo:rerun-if-changed={}", library.display());
     if !library.is_file() {
-        eprintln!("slatmonief: {} is not there.", library.display());
-        eprintln!("Build it once with `rt staticlib slatmonief` at the top of the repository (bin/test does it too),");
-        eprintln!("or name the folder that has libslatmonief.a in the variable SLATMONIEF_LIB_DIR.");
+        eprintln!("slatmonief: there is no file {}.", library.display());
+        eprintln!(
+            "Run bin/build at the top of the repository once to build it, or set the variable"
+        );
+        eprintln!("SLATMONIEF_LIB_DIR to the folder that has libslatmonief.a.");
         std::process::exit(1);
     }
     println!("cargo:rustc-link-search=native={}", folder.display());

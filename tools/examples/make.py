@@ -1,22 +1,25 @@
-"""Makes crates/paper/specs/Examples.antt and crates/paper/proofs/Against.antt.
+"""Makes crates/paper/proofs/Examples.antt and crates/paper/proofs/Against.antt.
 
-    python3 make.py CRATE ORACLE REPOSITORY
+    python3 tools/examples/make.py
 
-CRATE is the folder with the crate's src/, ORACLE the program built of oracle.rs, REPOSITORY the folder with crates/.
-Expected values come from the crate (run by ORACLE), from document 01 by hand, or from model.py. model.py has to agree with every one of them.
-Nothing here reads the definitions in specs/.
+The expected values come from the crate barcoders, from document 01 by hand, or from the standard as
+we know it; model.py must agree with every one that is the answer of a job. The package rust/answers
+asks the crate: cargo builds and runs it. Nothing here reads the definitions in specs/.
 """
 import os
 import random
 import subprocess
-import sys
 import textwrap
 
 import model
 from model import PATTERNS, STOP, refuse
 
-CRATE, ORACLE, REPOSITORY = sys.argv[1:4]
-model.load_patterns(os.path.join(CRATE, "src", "sym", "code128.rs"))
+REPOSITORY = os.path.dirname(os.path.dirname(os.path.dirname(os.path.abspath(__file__))))
+RUST = os.path.join(REPOSITORY, "rust")
+CODE128 = os.path.join(RUST, "barcoders", "src", "sym", "code128.rs")
+EXAMPLES = os.path.join(REPOSITORY, "crates", "paper", "proofs", "Examples.antt")
+AGAINST = os.path.join(REPOSITORY, "crates", "paper", "proofs", "Against.antt")
+model.load_patterns(CODE128)
 ROOM = 2829
 SWEPT = 512
 rng = random.Random(15417)
@@ -29,11 +32,16 @@ def P(label):
 # ---------------------------------------------------------------- the crate
 
 
+ASK = "cargo run --release --offline --locked --quiet --package answers -- --ask".split()
+ERRORS = ("Length", "Character")
+
+
 def crate_many(labels):
-    """What the crate answers: 'L', 'C' or the row as a text of 0 and 1."""
+    """What the crate answers to each label: one of ERRORS, or the row as a text of 0 and 1."""
     sent = "".join(" ".join("%X" % c for c in label) + "\n" for label in labels)
-    got = subprocess.run([ORACLE], input=sent, capture_output=True, text=True, check=True).stdout.split("\n")[:-1]
-    assert len(got) == len(labels)
+    run = subprocess.run(ASK, cwd=RUST, input=sent, stdout=subprocess.PIPE, text=True, check=True)
+    got = [line.split()[0] for line in run.stdout.splitlines()]
+    assert len(got) == len(labels) and all(g in ERRORS or set(g) == {"0", "1"} for g in got)
     return got
 
 
@@ -41,22 +49,23 @@ CONTINUE = ["", "À", "0", "00", "Ź0", "A", "a"]
 
 
 def crate_places(labels):
-    """Of each label the length of the longest prefix that some continuation makes the crate accept."""
-    tries = [(i, k, label[:k] + P(more)) for i, label in enumerate(labels) for k in range(len(label) + 1) for more in CONTINUE]
+    """For each label, the length of its longest prefix that the crate accepts with some ending."""
+    tries = [(i, k, label[:k] + P(more))
+             for i, label in enumerate(labels) for k in range(len(label) + 1) for more in CONTINUE]
     longest = [0] * len(labels)
     for (i, k, _), got in zip(tries, crate_many([t for _, _, t in tries])):
-        if got not in "LC":
+        if got not in ERRORS:
             longest[i] = max(longest[i], k)
     return longest
 
 
 def crate_answers(labels):
-    """The answer to each label. Refusal 4, which the crate lacks, has the symbols of the crate's row."""
+    """The answer to each label. The crate has no refusal 4: the symbols are counted in its row."""
     answers = []
     for label, got, place in zip(labels, crate_many(labels), crate_places(labels)):
-        if got == "L":
+        if got == "Length":
             answer = refuse(2, 0)
-        elif got == "C":
+        elif got == "Character":
             answer = refuse(3, place)
         else:
             n = (len(got) - 24) // 11
@@ -98,7 +107,7 @@ def hexed_bytes(record):
 
 
 def wrapped(piece, width):
-    """An entry too long for a line goes on in the next one, from its last part on that leaves both short enough."""
+    """An entry that is too long for one line, as two lines; the second begins with a word below."""
     for word in (" ⇒ ", " gives ", " draws ", " sends "):
         at = piece.find(word)
         if 0 < at <= width and len(piece) - at <= width:
@@ -107,7 +116,7 @@ def wrapped(piece, width):
 
 
 def listing(entries, width=160):
-    """Entries one after the other, as many to a line as fit."""
+    """The entries of a table, as many on a line as fit."""
     lines, line = [], ""
     for e in entries:
         piece = "(%s) ∷" % e
@@ -123,14 +132,20 @@ def listing(entries, width=160):
     return "".join("    %s\n" % x for x in lines[:-1] + [lines[-1] + " []"])
 
 
+def said(comment):
+    """A comment, wrapped at 100 columns."""
+    lines = textwrap.wrap(" ".join(comment.split()), 97, break_on_hyphens=False)
+    return "".join("-- %s\n" % line for line in lines)
+
+
 def title(words):
     TABLES.append("-- ---- %s\n" % words)
 
 
 def table(group, name, kind, comment, entries, each=1):
-    """A table; `each`: how many answers an entry is compared on."""
-    said = "\n".join("-- " + line for line in comment.split("\n"))
-    TABLES.append("%s\nunfoldable pub %s : List %s\n%s =\n%s" % (said, name, kind, name, listing(entries)))
+    """Adds a table. `each` is the number of answers that are compared for one entry."""
+    typed = "unfoldable pub %s : List %s\n%s =\n" % (name, kind, name)
+    TABLES.append(said(comment) + typed + listing(entries))
     COUNTS.append((group, name, len(entries) * each))
 
 
@@ -160,10 +175,10 @@ def labels_table(group, name, comment, labels):
 
 
 def points_table(group, name, comment, labels):
-    """As labels_table, the labels written as code points in hexadecimal."""
+    """Like labels_table, with the labels written as code points in hexadecimal."""
     shown = [" ∷ ".join(["0x%X" % c for c in l] + ["[]"]) for l in labels]
     table(group, name, "Example", comment, ["%s into 2829 gives %s" % (x, row_answer(a)) for x, a in zip(shown, crate_answers(labels))])
-    states("%s-hold" % name, "map (asked encoding) %s ≡ map given %s" % (name, name))
+    states("%s-hold" % name, "map (asked encode) %s ≡ map given %s" % (name, name))
 
 
 def examples_table(group, name, job, comment, entries):
@@ -210,7 +225,10 @@ entries = []
 for shown, value, room, answer in hand_a:
     want = answer if answer[0] == "refuse" else accept([int(d) for d in answer[2]], answer[1])
     entries.append(held_to("encode", shown, value, room, want, lambda a: plain_answer(a, lambda o: 'cellsOf "%s"' % "".join(map(str, o)))))
-examples_table("a", "unstarred", "encoding", "\"Labels on each side of the line\", those without a star, and the lines of \"The label program\", all as document 01 prints them.", entries)
+examples_table("a", "unstarred", "encode", """
+"Labels on each side of the line", those without a star except the two longest, and the lines of
+"The label program", all as document 01 prints them.
+""", entries)
 
 entries = []
 for shown, value, room, answer in [
@@ -219,23 +237,27 @@ for shown, value, room, answer in [
     ("1 ∷ []", [1], ROOM, refuse(20, 1)),
 ]:
     entries.append(held_to("unpack", shown, value, room, answer, lambda a: plain_answer(a, listed)))
-examples_table("a", "unstarredRecords", "unpacking", "\"Unpack of 1, 0: 22, 0. Of 2, 1: 21, 2. Of one byte: 20, 1.\"", entries)
+examples_table("a", "unstarredRecords", "unpack", "\"Unpack of 1, 0: 22, 0. Of 2, 1: 21, 2. Of one byte: 20, 1.\"", entries)
 
 LONG_C = model.check_of(A254), model.check_of(C508)
 pairs5 = " ".join(PATTERNS[m] for m in (1, 23, 45, 67, 89))
-TABLES.append("""-- "Ɓ and 254 A: n = 255." and "Ć and 508 digits: n = 255.", the digits being 0 to 9 over and over. The rows are put together here of patterns
--- of `CHARS`, copied from the crate's source; the checks are %d and %d, by arithmetic outside.
-unfoldable pub longest : List Example
+TABLES.append(said("""
+"Ɓ and 254 A: n = 255." and "Ć and 508 digits: n = 255.", the digits being 0 to 9 again and again.
+The rows are put together from patterns of `CHARS`, copied from the crate's source; model.py
+computed the checks, %d and %d.
+""" % LONG_C) + """unfoldable pub longest : List Example
 longest =
     ((Ɓ ∷ replicate 254 65) into 2829 gives accept 255
     (cellsOf "%s" ++ (times 254 (cellsOf "%s") ++ cellsOf "%s %s"))) ∷
     ((Ć ∷ times 50 (points "0123456789") ++ points "01234567") into 2829 gives accept 255
     (cellsOf "%s" ++ (times 50 (cellsOf "%s") ++
     cellsOf "%s %s %s"))) ∷ []
-""" % (*LONG_C, PATTERNS[104], PATTERNS[33], PATTERNS[LONG_C[0]], STOP,
+""" % (PATTERNS[104], PATTERNS[33], PATTERNS[LONG_C[0]], STOP,
        PATTERNS[105], pairs5, " ".join(PATTERNS[m] for m in (1, 23, 45, 67)), PATTERNS[LONG_C[1]], STOP))
 COUNTS.append(("a", "longest", 2))
-states("longest-hold", "map (asked encoding) longest ≡ map given longest")
+assert model.encode(ROOM, P("Ɓ" + "A" * 254)) == accept(model.cells_of(A254), 255)
+assert model.encode(ROOM, P("Ć" + "0123456789" * 50 + "01234567")) == accept(model.cells_of(C508), 255)
+states("longest-hold", "map (asked encode) longest ≡ map given longest")
 
 entries = []
 for shown, value, room, answer in [
@@ -266,7 +288,11 @@ for shown, value, room, answer in [
     ("Ɓ ∷ replicate 254 65", [0x181] + [65] * 254, 2828, refuse(5, 2829)),
 ]:
     entries.append(held_to("encode", shown, value, room, answer, lambda a: plain_answer(a, listed)))
-examples_table("a", "order", "encoding", "Encode's refusals, their places and their order, by hand from document 01's table and \"Order\". A Rust char cannot be D800..DFFF or above\n10FFFF, so the crate cannot be asked about refusal 1.", entries)
+examples_table("a", "order", "encode", """
+Encode's refusals, their places and their order, by hand from document 01's table and "Order". The
+values D800..DFFF and those above 10FFFF are no Rust chars, so the crate cannot be asked about
+refusal 1.
+""", entries)
 
 # ================================================================ b. published examples
 
@@ -282,9 +308,14 @@ entries = []
 for label, symbols, check, message in PUBLISHED:
     assert model.parse(P(label)) == symbols and model.check_of(symbols) == check and model.scan(ROOM, symbols)[2] == P(message)
     entries.append('%s is (%s) checked %d sends "%s"' % (text(P(label)), listed(symbols), check, message))
-table("b", "published", "Published", """ISO/IEC 15417:2007, Figure 1, AIM in set B with the check 45, and Annex A.1, AIM1234 with the check 87; PJJ123C in set A with the check 54, and
-the word Wikipedia in set B, from the article "Code 128" there. The label that writes each, its symbols, its check and what a scanner sends. The
-sums, by hand: 104+33+82+135 = 354; 354+396+60+204 = 1014; 103+48+84+126+68+90+114+245 = 878; 104+55+146+225+292+400+414+476+584+585 = 3281.""", entries, each=3)
+table("b", "published", "Published", """
+AIM in set B with the check 45 (ISO/IEC 15417, Figure 1); AIM1234 with the check 87 (its Annex A.1);
+and, from Wikipedia's article "Code 128", PJJ123C in set A with the check 54 and the word Wikipedia
+in set B. No copy of these texts was at hand: the values are as we know them. An entry has the
+label, its symbols, its check and what a scanner sends. The sums that give the checks, by hand:
+104+33+82+135=354, 354+396+60+204=1014, 103+48+84+126+68+90+114+245=878 and
+104+55+146+225+292+400+414+476+584+585=3281.
+""", entries, each=3)
 states("published-hold", "map parsedAs published ≡ map printedAs published")
 
 wiki = "11010000100 11101110110 10110111000 10110111000 10011100110 11001110010 11001011100 10001000110 11101011000 1100011101011"
@@ -294,27 +325,34 @@ assert aim == " ".join(PATTERNS[m] for m in (104, 33, 41, 45, 45)) + " " + STOP
 entries = ['points "ÀPJJ123C" into 112 gives accept 8 (cellsOf "%s")' % wiki,
            'points "ƁAIM" into 68 gives accept 4 (cellsOf "%s")' % aim]
 assert model.encode(112, P("ÀPJJ123C"))[0] == model.encode(68, P("ƁAIM"))[0] == "accept"
-examples_table("b", "publishedRows", "encoding", "Two of their rows: PJJ123C of the bar patterns in the same article's table, AIM of the standard's widths 211214 111323 231311 113123 113123 2331112.", entries)
+examples_table("b", "publishedRows", "encode", """
+Two of their rows: that of PJJ123C from the bar patterns in the article's table, that of AIM from
+the standard's widths 211214 111323 231311 113123 113123 2331112.
+""", entries)
 
 # ================================================================ c. the crate's answers
 
 title("c. the crate's answers")
-TABLES.append("""-- All that follows under c is what `Code128` of barcoders 2.0.0, its source unchanged, answers when it is run; rows in hexadecimal.
--- Error::Length is refusal 2 and Error::Character refusal 3. The crate tells no place: the place is the length of the longest prefix of the label
--- that can be continued to a label which the crate accepts, found by running it on every prefix with these endings: none, À, 0, 00, Ź0, A, a.
--- The crate cannot be asked about D800..DFFF and above 10FFFF, which are no Rust chars, nor about a buffer's room; it has no upper limit.
-""")
+TABLES.append(said("""
+The tables under c are from the crate barcoders 2.0.0, its source unchanged: first its constants,
+then what `Code128` answers when it is run. Rows are written in hexadecimal. Error::Length is
+refusal 2 and Error::Character is refusal 3. The crate gives no place: the place is the length of
+the longest prefix of the label that the crate accepts with some ending, and each prefix was tried
+with these endings: none, À, 0, 00, Ź0, A, a. The crate cannot be asked about D800..DFFF and above
+10FFFF, which are no Rust chars, nor about the length of a buffer; and it has no upper limit.
+"""))
 
-full = open(os.path.join(CRATE, "src", "sym", "code128.rs"), encoding="utf-8").read()
+full = open(CODE128, encoding="utf-8").read()
 assert "const STOP: Encoding = [1, 1, 0, 0, 0, 1, 1, 1, 0, 1, 0];" in full and "const TERM: [u8; 2] = [1, 1];" in full
 flat = hexed([int(d) for p in PATTERNS for d in p])[1:-1]
 parts = [flat[i:i + 98] for i in range(0, len(flat), 98)]
-TABLES.append("""-- `CHARS`, all 1,166 cells as they stand in the crate's source, and `STOP` and `TERM`
+TABLES.append("""-- `CHARS`, all 1,166 cells as they stand in the crate's source
 unfoldable pub crateChars : List ℕ
 crateChars =
     take 1166 (fours (
     %s))
 
+-- `STOP` and then `TERM`
 unfoldable pub crateStop : List ℕ
 crateStop = cellsOf "11000111010 11"
 """ % " ++\n    ".join('cellsOf "%s"' % p for p in parts))
@@ -334,11 +372,12 @@ for p in PATTERNS:
     widths.append("".join(map(str, runs)))
 assert widths[0] == "212222" and widths[105] == "211232"
 lines = [" ".join(widths[i:i + 20]) for i in range(0, 106, 20)]
-TABLES.append("""-- the lengths of the bars and spaces of each pattern, counted outside in the crate's cells, and how many of its cells are bars
+TABLES.append("""-- the widths of the bars and spaces of each pattern, counted in the crate's cells by tools/examples
 unfoldable pub crateWidths : List ℕ
 crateWidths =
     %s
 
+-- how many cells of each pattern are bars, counted in the same way
 unfoldable pub crateBars : List ℕ
 crateBars = cellsOf "%s"
 """ % (" ++\n    ".join('cellsOf "%s"' % x for x in lines), "".join(str(p.count("1")) for p in PATTERNS)))
@@ -352,7 +391,7 @@ SPECIAL = "ŻźŽżŹ"
 numbers = [P("À") + list(range(a, b)) for a, b in ((0x20, 0x40), (0x40, 0x60), (0x00, 0x10), (0x10, 0x20))] + [P("À" + SPECIAL)]
 numbers += [P("Ɓ") + list(range(0x20, 0x40)), P("Ɓ") + list(range(0x40, 0x60)), P("Ɓ") + list(range(0x60, 0x7F)) + [0xF7], P("Ɓ" + SPECIAL)]
 numbers += [P("Ć" + "".join("%02d" % m for m in range(a, a + 25))) for a in (0, 25, 50, 75)] + [P("ĆŹ")]
-got = labels_table("c", "everyNumber", "every number of the three sets that is no switch", numbers)
+got = labels_table("c", "everyNumber", "every number of each set, but for the switches", numbers)
 assert all(a[0] == "accept" for _, a in got)
 
 switches = ["ÀƁ", "ÀĆ", "ƁÀ", "ƁĆ", "ĆÀ", "ĆƁ", "ÀƁa", "ÀĆ00", "ƁÀ\x1f", "ƁĆ99", "ĆÀ\x00", "ĆƁz", "ÀƁÀƁ", "ÀĆÀĆ", "ƁĆƁĆ", "ÀƁĆÀĆƁÀ", "ĆƁÀĆƁÀĆ", "Ć12À\x01Ɓ~Ć34",
@@ -367,7 +406,7 @@ labels_table("c", "everyFunction", "Shift and the function symbols in every set:
 held = ["Ć12", "Ć1Ź2", "ĆŹ12", "Ć1ŹŹ2", "Ć1ŹŹŹ2", "ĆŹ1Ź2", "ĆŹŹ1Ź2", "Ć12Ź", "ĆŹ1Ź2Ź", "Ć1Ź234", "Ć1Ź23Ź4", "Ć12Ź34", "Ć12Ź3Ź4", "Ć1ŹŹ23ŹŹ4Ź", "Ć0Ź0", "Ć9Ź9", "Ć00", "Ć99",
         "Ć09", "Ć90", "ƁĆ1ŹŹ2", "ƁĆ1Ź2Ɓ", "Ć1Ź2ÀA", "Ć1Ź2Ɓa", "Ć1234567890", "Ć1", "Ć123", "Ć12345", "Ć1Ź", "Ć1ŹŹ", "Ć1Ź23", "Ć12Ź3", "Ć12Ź3Ź", "Ć1ŹÀ", "Ć1ŹƁ2", "Ć1ŹĆ2", "Ć1ŹA", "Ć1A",
         "Ć1 2", "ĆA1", "Ć-1", "Ć1/", "Ć1:", "Ć/", "Ć:", "Ć12a", "Ć1a2", "Ć1Ź2a", "ÀĆ1", "ÀĆ1Ź", "ƁĆ1Ź2Ź3"]
-labels_table("c", "everyPair", "pairs, digits held across Ź, digits left over, switches with a digit held", [P(s) for s in held])
+labels_table("c", "everyPair", "pairs, digits held across Ź, digits left over, and switches while a digit is held", [P(s) for s in held])
 
 foreign = [P("Ć") + l for l in ([0x661, 0x662], [0x661, 49, 50], [49, 0x661], [0xFF11, 0xFF12], [49, 0xFF12], [0xFF11, 50], [0x967, 0x968], [0xB2, 0xB3], [49, 0xB2], [0x1D7CF, 50])]
 foreign += [P("À") + [0x661], P("À") + [0xB2], P("Ɓ") + [0xFF11], P("Ɓ") + [0x2460], [0x661, 49]]
@@ -375,14 +414,14 @@ points_table("c", "foreignDigits", "digits that are not ASCII", foreign)
 
 lone = [[]] + [[c] for c in (0x00, 0x30, 0x41, 0x7F, 0x80, 0xC0, 0x106, 0x181, 0xF7, 0x179, 0x7FF, 0x800, 0xFFFF, 0x10000, 0x10FFFF)]
 lone += [P(x) for x in ("AA", "12", "AÀ", "ŹÀ", " À", "\ufeffÀ", "A\u0300")]
-points_table("c", "firstPoints", "what a label may begin with, and Error::Length; 41 300 is A with a combining accent, which is no À", lone)
+points_table("c", "firstPoints", "what a label may begin with, and Error::Length; 41 300 is A with a combining accent, not À", lone)
 
 doc = ["ƁHE1234A*1", "ÀHE@$AĆ123456", "À\x06", "ÀHELLO", "ÀXYĆ2199", "ƁxyZÀ199!*1", "ƁŹ4218402050À0", "ÀB\x06", "ÀPJJ123C", "ƁAIM", "ƁAIMĆ1234", "ƁWikipedia",
        "ĆŹ0012345678901234567890", "ĆŹ0109501101530003Ɓ", "Ɓ-Rattle 0.1-"]
-labels_table("c", "documented", "the labels of the crate's own documentation, those of b, and others of everyday use", [P(s) for s in doc])
+labels_table("c", "documented", "the labels of the crate's documentation, those of b, and others of everyday use", [P(s) for s in doc])
 
 
-# random labels; `stay` keeps them accepted
+# random labels: accepted, or with one code point changed if `stay` is false
 def random_label(length, stay=True):
     while True:
         label, now, digit = [rng.choice((0xC0, 0x181, 0x106))], None, None
@@ -417,10 +456,10 @@ while len(labels) < 30:
     if model.encode(ROOM, label)[0] == "refuse":
         labels.append(label)
         k += 1
-labels_table("c", "randomlyWrong", "random labels with one code point spoiled, refused", labels)
+labels_table("c", "randomlyWrong", "random labels with one code point changed, so that they are refused", labels)
 
 
-# labels whose check falls on a given number
+# labels that have a given check
 def with_check(start, wanted):
     while True:
         label = random_label(rng.randrange(2, 7))
@@ -429,7 +468,7 @@ def with_check(start, wanted):
             return label
 
 
-got = labels_table("c", "checksOn", "labels whose check is 0, 1, 64, 95, 96, 99, 101 and 102, one for each START",
+got = labels_table("c", "checksOn", "for each of the checks 0, 1, 64, 95, 96, 99, 101 and 102, one label of each START",
                    [with_check(s, c) for c in (0, 1, 64, 95, 96, 99, 101, 102) for s in (0xC0, 0x181, 0x106)])
 
 # sweeps
@@ -443,15 +482,18 @@ SHOWN = {
     "": ("points \"ÀĆƁ\"", P("ÀĆƁ")),
 }
 sweeps = []
-for ahead, behind, place in (("", "A", 0), ("À", "", 1), ("Ɓ", "", 1), ("Ć", "", 1), ("Ć1", "", 2), ("ÀĆ1Ź", "2", 4)):
+for first, rest, place in (("", "A", 0), ("À", "", 1), ("Ɓ", "", 1), ("Ć", "", 1), ("Ć1", "", 2), ("ÀĆ1Ź", "2", 4)):
     every = [c for c in range(0x110000) if not 0xD800 <= c <= 0xDFFF]
-    got = crate_many([P(ahead) + [c] + P(behind) for c in every])
-    near = [P(ahead) + [c] + P(behind) for c in range(SWEPT)] + [P(ahead) + [c] + P(behind) for c in FAR]
-    kept = [label[len(ahead)] for label, a in zip(near, crate_answers(near)) if a != refuse(3, place)]
-    assert kept == SHOWN[ahead][1] and all(c < SWEPT for c, g in zip(every, got) if g != "C")
-    sweeps.append("swept %s %s %d (%s)" % (text(P(ahead)), text(P(behind)), place, SHOWN[ahead][0]))
-table("c", "sweeps", "Sweep", """Every code point below 512 and the borders 7FF, 800, D7FF, E000, FFFF, 10000 and 10FFFF, put between two texts: those that are not refused 3 at
-that place, in their order. (The crate was run on all others up to 10FFFF too, and refuses each with Error::Character.)""", sweeps, each=SWEPT + len(FAR))
+    got = crate_many([P(first) + [c] + P(rest) for c in every])
+    near = [P(first) + [c] + P(rest) for c in range(SWEPT)] + [P(first) + [c] + P(rest) for c in FAR]
+    kept = [label[len(first)] for label, a in zip(near, crate_answers(near)) if a != refuse(3, place)]
+    assert kept == SHOWN[first][1] and all(c < SWEPT for c, g in zip(every, got) if g != "Character")
+    sweeps.append("swept %s %s %d (%s)" % (text(P(first)), text(P(rest)), place, SHOWN[first][0]))
+table("c", "sweeps", "Sweep", """
+Every code point below 512 and 7FF, 800, D7FF, E000, FFFF, 10000 and 10FFFF, put between two texts:
+those that are not refused 3 at that place, in their order. The crate was run on all other code
+points up to 10FFFF too, and refuses each with Error::Character.
+""", sweeps, each=SWEPT + len(FAR))
 states("sweeps-hold", "map passing sweeps ≡ map kept sweeps")
 
 # ================================================================ d. read
@@ -469,11 +511,14 @@ for label, answer in labels:
     s = "".join(map(str, row))
     symbols = [PATTERNS.index(s[11 * i:11 * i + 11]) for i in range(n)]
     entries.append(held_to("read", "rowOf %d %s" % (n, hexed(row)), row, n, accept(symbols), lambda a: plain_answer(a, listed)))
-examples_table("d", "readBack", "reading", "rows that the crate wrote, lent just the room; the symbols are the places of their blocks in the crate's `CHARS`", entries)
+examples_table("d", "readBack", "read", """
+rows that the crate wrote, read into a buffer just long enough; the symbols are the places of the
+row's blocks in the crate's `CHARS`
+""", entries)
 
 
 def rows(*parts, stop=STOP):
-    """A row in blocks: a number is a pattern of CHARS, a text stands as it is."""
+    """A row in blocks: a number becomes its pattern in CHARS, a text stays as it is."""
     return " ".join([PATTERNS[p] if isinstance(p, int) else p for p in parts] + ([stop] if stop else []))
 
 
@@ -493,13 +538,16 @@ def reading(name, comment, cases):
         else:
             shown, value = 'cellsOf "%s"' % row, [int(d) for d in row.replace(" ", "")]
         entries.append(held_to("read", shown, value, room, answer, lambda a: plain_answer(a, listed)))
-    examples_table("d", name, "reading", comment, entries)
+    examples_table("d", name, "read", comment, entries)
 
 
 NONE = "11000111010"   # the first eleven cells of the stop
 assert NONE not in PATTERNS
 ZERO, ONES = "0" * 11, "1" * 11
-reading("readLengths", "\"10\", by hand: a row has 11(n+1)+13 cells, 1 ≤ n ≤ 255; \"11\", the place of the first", [
+reading("readLengths", """
+Refusals 10 and 11, by hand: a row has 11(n+1)+13 cells with 1 ≤ n ≤ 255, and 11 gives the place of
+the first cell neither 0 nor 1.
+""", [
     (("[]", []), 255, refuse(10, 0)),
     (("replicate 24 1", [1] * 24), 255, refuse(10, 24)),
     (("replicate 34 0", [0] * 34), 255, refuse(10, 34)),
@@ -523,7 +571,10 @@ reading("readLengths", "\"10\", by hand: a row has 11(n+1)+13 cells, 1 ≤ n ≤
     (rows(put(PA, 0, "2"), put(PATTERNS[0], 5, "3")), 255, refuse(11, 0)),
     (rows(103, 99, put(PATTERNS[99], 1, "2"), stop=put(STOP, 3, "2")), 255, refuse(11, 23)),
 ])
-reading("readBlocks", "\"12\" and \"13\", by hand: the first block from the left that is no pattern, or not a START at 0, or above 102 after it; before 15, 14 and 5", [
+reading("readBlocks", """
+Refusals 12 and 13, by hand: the first block from the left that is no pattern, or that is not a
+START at block 0, or that is above 102 after it. They come before 15, 14 and 5.
+""", [
     (rows(flip(PA, 10), 0), 255, refuse(12, 0)),
     (rows(ZERO, 0), 255, refuse(12, 0)),
     (rows(ONES, 0), 255, refuse(12, 0)),
@@ -546,7 +597,7 @@ reading("readBlocks", "\"12\" and \"13\", by hand: the first block from the left
     (rows(105, 12, 105), 255, refuse(13, 2)),
     (rows(104, 33, 104, 45, 45), 255, refuse(13, 2)),
     (rows(104, 33, 41, 45, 104), 0, refuse(13, 4)),
-    # both: the one further left
+    # both refusals apply: the one further left is answered
     (rows(ZERO, 103), 255, refuse(12, 0)),
     (rows(33, ZERO), 255, refuse(13, 0)),
     (rows(105, ZERO, 103), 255, refuse(12, 1)),
@@ -563,13 +614,13 @@ cases += [(rows(105, 12, 14, stop=flip(STOP, i)), 255, refuse(15, 33 + i)) for i
 cases += [(rows(103, 0, stop=ZERO + "00"), 255, refuse(15, 22)), (rows(103, 0, stop=ONES + "11"), 255, refuse(15, 24)),
           (rows(103, 0, stop=PATTERNS[103] + "11"), 255, refuse(15, 25)), (rows(103, 0, stop=STOP[::-1]), 255, refuse(15, 25)),
           (rows(103, 0, stop=flip(flip(STOP, 12), 5)), 255, refuse(15, 27)),
-          # the stop ahead of its place: it goes by the row's length, not by search
+          # the stop before its place: its place follows from the row's length, not from a search
           (rows(103, 0, stop="1100011101011 00000000000"), 255, refuse(12, 2)),
           (rows(103, 0, stop="11000111010 1100011101011"), 255, refuse(12, 2)),
           # before 14 and 5
           (rows(103, 1, stop=flip(STOP, 12)), 255, refuse(15, 34)), (rows(105, 12, 15, stop=flip(STOP, 1)), 0, refuse(15, 34)),
           (rows(104, 0, stop=flip(STOP, 11)), 255, refuse(15, 33))]
-reading("readStops", "\"15\", by hand: the place in the row of the first wrong cell of the last 13", cases)
+reading("readStops", "Refusal 15, by hand: it gives the place in the row of the first wrong cell of the last 13.", cases)
 cases = [
     (rows(103, 1), 255, refuse(14, 0)), (rows(103, 102), 255, refuse(14, 0)), (rows(104, 0), 255, refuse(14, 1)), (rows(105, 0), 255, refuse(14, 2)),
     (rows(105, 12, 13), 255, refuse(14, 14)), (rows(105, 12, 15), 0, refuse(14, 14)), (rows(105, 13, 14), 255, refuse(14, 15)), (rows(104, 12, 14), 255, refuse(14, 13)),
@@ -582,24 +633,24 @@ cases = [
     (rows(104, 33, 41, 45, 99, 12, 34, 87), 7, accept([104, 33, 41, 45, 99, 12, 34])), (rows(104, 98, 99), 2, accept([104, 98])), (rows(104, 95, 96), 2, accept([104, 95])),
     (rows(103, 99, 12, 20), 3, accept([103, 99, 12])), (rows(103, 48, 42, 42, 17, 18, 19, 35, 54), 8, accept([103, 48, 42, 42, 17, 18, 19, 35])),
 ]
-reading("readChecks", "\"14\" with the right check number, \"5\" with n, and what is accepted, by hand", cases)
+reading("readChecks", "Refusal 14 with the right check number, refusal 5 with n, and rows that are accepted, by hand.", cases)
 
 B103 = [104] + [33] * 103
 good = lambda s: [int(d) for m in s + [model.check_of(s)] for d in PATTERNS[m]] + [int(d) for d in STOP]
 assert model.read(255, good(A254)) == accept(A254)
-TABLES.append("""-- The longest row, put together of the crate's patterns, the check by arithmetic outside.
+TABLES.append("""-- The longest row, put together from the crate's patterns; model.py computed the check.
 unfoldable pub readLong : List Example
 readLong =
     (cellsOf "%s" ++ (times 254 (cellsOf "%s") ++ cellsOf "%s %s") into 255 gives accept 255 (104 ∷ replicate 254 33)) ∷ []
 """ % (PB, PATTERNS[33], PATTERNS[LONG_C[0]], STOP))
 COUNTS.append(("d", "readLong", 1))
-states("readLong-hold", "map (asked reading) readLong ≡ map given readLong")
+states("readLong-hold", "map (asked read) readLong ≡ map given readLong")
 
 # ================================================================ e. spell, scan, draw
 
 title("e. spell, scan and draw")
 LISTS = [
-    # list, what spell writes, what scan sends: by hand
+    # by hand: a list, what spell writes and what scan sends
     ([103], "À", ""), ([104], "Ɓ", ""), ([105], "Ć", ""),
     ([103, 0], "À ", " "), ([103, 33], "ÀA", "A"), ([103, 63], "À_", "_"), ([103, 64], "À\x00", "\x00"), ([103, 95], "À\x1f", "\x1f"),
     ([103, 96], "ÀŻ", ""), ([103, 97], "Àź", ""), ([103, 98], "ÀŽ", ""), ([103, 99], "ÀĆ", ""), ([103, 100], "ÀƁ", ""), ([103, 101], "Àż", ""), ([103, 102], "ÀŹ", ""),
@@ -626,8 +677,10 @@ for (s, x, b), got in zip(LISTS, crate_rows):
     row = [int(d) for d in got]
     assert model.spell(len(x), s) == accept(P(x)) and model.scan(len(b), s) == accept(P(b)) and model.draw(len(row), s) == accept(row, len(s)), (s, x, b)
     entries.append("(%s) spells %s scans %s draws %s" % (listed(s), text(P(x)), text(P(b)), hexed(row)))
-table("e", "lists", "Listed", """Symbol lists, what spell writes and what scan sends, by hand from document 01; the row is what the crate writes for the spelled label.
-Each job is lent just the room that it needs.""", entries, each=3)
+table("e", "lists", "Listed", """
+Symbol lists, the label that spell writes and the bytes that scan sends, by hand from document 01;
+the row is what the crate writes for that label. Each job gets a buffer just long enough.
+""", entries, each=3)
 states("lists-hold", "map threeJobs lists ≡ map threeAnswers lists")
 
 bad = [
@@ -646,7 +699,7 @@ for shown, value, room, answer in bad:
     for job in ("draw", "spell", "scan"):
         e = held_to(job, shown, value, room, answer, lambda a: plain_answer(a, listed))
     entries.append(e)
-examples_table("e", "badLists", "drawing spelling scanning", "\"10, 13, 5\", by hand, asked of all three jobs", entries)
+examples_table("e", "badLists", "draw spell scan", "\"Draw, spell, scan: 10, 13, 5.\", by hand; the three jobs give the same answers.", entries)
 COUNTS[-1] = ("e", "badLists", 3 * len(bad))
 
 entries = []
@@ -656,7 +709,7 @@ for s, room, answer in [
     entries.append(held_to("draw", listed(s), s, room, answer, lambda a: plain_answer(a, listed)))
 v = [104] + [33] * 254
 entries.append(held_to("draw", "104 ∷ replicate 254 33", v, 2828, refuse(5, 2829), lambda a: plain_answer(a, listed)))
-examples_table("e", "drawShort", "drawing", "room one short, by hand: 11(n+1)+13 cells", entries)
+examples_table("e", "drawShort", "draw", "Refusal 5 of draw, by hand: a row has 11(n+1)+13 cells.", entries)
 entries = []
 for s, room, answer in [
     ([103], 0, refuse(5, 1)), ([105], 0, refuse(5, 1)), ([105, 12], 2, refuse(5, 3)), ([105, 102], 1, refuse(5, 2)), ([104, 33, 41, 45], 3, refuse(5, 4)), ([103, 99, 12], 3, refuse(5, 4)),
@@ -666,7 +719,7 @@ v = [105] + [0] * 254
 entries.append(held_to("spell", "105 ∷ replicate 254 0", v, 508, refuse(5, 509), lambda a: plain_answer(a, listed)))
 assert model.spell(509, v) == accept([0x106] + [48] * 508)
 entries.append("105 ∷ replicate 254 0 into 509 gives accept 509 (Ć ∷ replicate 508 48)")
-examples_table("e", "spellShort", "spelling", "room one short, by hand, and \"At most 1 + 2·254 = 509 code points\"", entries)
+examples_table("e", "spellShort", "spell", "Refusal 5 of spell, by hand, and \"At most 1 + 2·254 = 509 code points.\"", entries)
 entries = []
 for s, room, answer in [
     ([103], 0, accept([])), ([103, 98, 102], 0, accept([])), ([105, 12], 1, refuse(5, 2)), ([105, 12], 0, refuse(5, 2)), ([104, 33, 41, 45], 2, refuse(5, 3)), ([104, 33, 102], 0, refuse(5, 1)),
@@ -676,7 +729,7 @@ for s, room, answer in [
 entries.append(held_to("scan", "105 ∷ replicate 254 0", v, 507, refuse(5, 508), lambda a: plain_answer(a, listed)))
 assert model.scan(508, v) == accept([48] * 508)
 entries.append("105 ∷ replicate 254 0 into 508 gives accept 508 (replicate 508 48)")
-examples_table("e", "scanShort", "scanning", "room one short, or none and none needed, by hand", entries)
+examples_table("e", "scanShort", "scan", "Refusal 5 of scan, by hand, and empty buffers where nothing is sent.", entries)
 
 # ================================================================ f. the row record
 
@@ -702,7 +755,7 @@ VA, VC = shown_cells(CA)[1], shown_cells(CC)[1]
 entries = by_hand("pack", [
     (*shown_cells(CA), 7, accept(BA)), (*shown_cells(CA), 6, refuse(5, 7)), (*shown_cells(CA), 0, refuse(5, 7)), (*shown_cells(CA), 2829, accept(BA)),
     (*shown_cells(CC), 8, accept(BC)), (*shown_cells(CC), 7, refuse(5, 8)),
-    # not readable, and packed all the same
+    # rows that cannot be read are packed too
     ("replicate 35 0", [0] * 35, 7, accept(shown_bytes("01 01 00 00 00 00 00")[1])), ("replicate 35 1", [1] * 35, 7, accept(shown_bytes("01 01 FF FF FF FF E0")[1])),
     ("replicate 34 0 ++ (1 ∷ [])", [0] * 34 + [1], 7, accept(shown_bytes("01 01 00 00 00 00 20")[1])), ("1 ∷ replicate 34 0", [1] + [0] * 34, 7, accept(shown_bytes("01 01 80 00 00 00 00")[1])),
     (*shown_cells("00000001 00000010 00000100 00001000 000"), 7, accept(shown_bytes("01 01 01 02 04 08 00")[1])),
@@ -718,7 +771,10 @@ entries = by_hand("pack", [
 ], lambda o: hexed_bytes(o))
 assert model.pack(356, [1] * 2829) == accept([1, 255] + [255] * 353 + [0xF8])
 entries.append("replicate 2829 1 into 356 gives accept 356 (1 ∷ 255 ∷ replicate 353 255 ++ (0xF8 ∷ []))")
-examples_table("f", "packings", "packing", "by hand from \"Row record\" and \"Pack: 10, 11, 5\"; the first rows are those of the label program, in eights", entries)
+examples_table("f", "packings", "pack", """
+By hand from "Row record" and "Pack: 10, 11, 5". The first rows are those of "The label program",
+written with eight cells together.
+""", entries)
 
 
 def set_bits(record, value):
@@ -732,10 +788,10 @@ def sb(record):
 cases = [
     (*sb(BA), 35, accept(VA)), (*sb(BA), 34, refuse(5, 35)), (*sb(BC), 46, accept(VC)), (*sb(BC), 45, refuse(5, 46)),
 ]
-# each spare bit by itself, and all
+# each spare bit alone, and all of them
 cases += [(*sb(set_bits(BA, b)), 2829, refuse(23, 6)) for b in (1, 2, 4, 8, 16, 31)] + [(*sb(set_bits(BC, b)), 2829, refuse(23, 7)) for b in (1, 2, 3)]
 cases += [(*sb(set_bits(BA, 1)), 0, refuse(23, 6))]
-# the lowest bit that is none
+# the lowest bit that is not spare
 cases += [(*shown_bytes("01 01 00 00 00 00 20"), 35, accept([0] * 34 + [1])), (*shown_bytes("01 01 80 00 00 00 00"), 35, accept([1] + [0] * 34)),
           (*shown_bytes("01 01 FF FF FF FF E0"), 35, accept([1] * 35)), (*shown_bytes("01 01 FF FF FF FF FF"), 35, refuse(23, 6)),
           (*shown_bytes("01 01 01 02 04 08 00"), 35, accept([int(d) for d in "00000001000000100000010000001000000"])),
@@ -753,7 +809,10 @@ cases += [("[]", [], 2829, refuse(20, 0)), ("0 ∷ []", [0], 0, refuse(20, 1)), 
 entries = by_hand("unpack", cases, lambda o: ("replicate %d %d" % (len(o), o[0])) if len(set(o)) == 1 else 'cellsOf "%s"' % "".join(map(str, o)))
 assert model.unpack(2829, [1, 255] + [255] * 353 + [0xF8]) == accept([1] * 2829)
 entries.append("1 ∷ 255 ∷ replicate 353 255 ++ (0xF8 ∷ []) into 2829 gives accept 2829 (replicate 2829 1)")
-examples_table("f", "unpackings", "unpacking", "by hand from \"Row record\" and \"Unpack: 20, 21, 22, 23, 5\": each spare bit, count 0, one byte short and one long, the versions 0, 2, 3 and 255", entries)
+examples_table("f", "unpackings", "unpack", """
+By hand from "Row record" and "Unpack: 20, 21, 22, 23, 5": each spare bit, count 0, one byte too few
+and one too many, and the versions 0, 2, 3 and 255.
+""", entries)
 
 # ================================================================ g. settle
 
@@ -765,32 +824,66 @@ for x, y in MOVED:
     assert model.settle(P(x)) == P(y) and model.encode(ROOM, P(x)) == model.encode(ROOM, P(y)) and model.encode(ROOM, P(x))[0] == "accept" and crate_many([P(x)]) == crate_many([P(y)])
 for x in STILL:
     assert model.settle(P(x)) == P(x)
-table("g", "settling", "Settled", """By hand from "every Ź standing between the two digits of a set C pair is moved ahead of that pair". The crate writes one row for both labels of an
-entry. Digits outside set C are no pairs, and a Ź ahead of a pair or after it stays. Labels in which a first digit has no second are left out: the
-sentence says nothing of them, and encode refuses them.""",
+table("g", "settling", "Settled", """
+By hand from "every Ź standing between the two digits of a set C pair is moved ahead of that pair"
+(demand 3). The crate writes the same row for both labels of an entry. Digits outside set C are no
+pairs, and a Ź before a pair or after it stays. Labels in which a first digit has no second are left
+out: the sentence says nothing about them, and encode refuses them.
+""",
       ["%s becomes %s" % (text(P(x)), text(P(y))) for x, y in MOVED] + ["stays %s" % text(P(x)) for x in STILL], each=2)
 states("settling-hold", "map settles settling ≡ map settled settling")
 
 # ================================================================ h. the lent buffer
 
 title("h. the lent buffer")
-table("h", "buffers", "Buffer", """By hand from "An accepted call fills the front of its buffer and answers 0 with a number", "Bytes or numbers behind that are unchanged", "A refusal changes
-no lent memory": a job, its input, the buffer before, and then the number, the second number and the buffer after.""", [
-    'calls encoding (points "À") (replicate 37 7) 0 1 (cellsOf "11010000100110110011001100011101011" ++ (7 ∷ 7 ∷ []))',
-    'calls encoding (points "À") (replicate 35 9) 0 1 (cellsOf "11010000100110110011001100011101011")',
-    'calls encoding (points "À") (replicate 34 9) 5 35 (replicate 34 9)',
-    'calls encoding (points "Ć1") (4 ∷ 5 ∷ 6 ∷ []) 3 2 (4 ∷ 5 ∷ 6 ∷ [])',
-    'calls drawing (105 ∷ 2 ∷ []) (3 ∷ []) 5 46 (3 ∷ [])',
-    'calls reading (cellsOf "11010000100110110011001100011101011") (1 ∷ 2 ∷ 3 ∷ []) 0 1 (103 ∷ 2 ∷ 3 ∷ [])',
-    'calls reading (cellsOf "11010000100110110011001100011101010") (1 ∷ 2 ∷ 3 ∷ []) 15 34 (1 ∷ 2 ∷ 3 ∷ [])',
-    'calls spelling (105 ∷ 12 ∷ []) (8 ∷ 8 ∷ 8 ∷ 8 ∷ 8 ∷ []) 0 3 (Ć ∷ 49 ∷ 50 ∷ 8 ∷ 8 ∷ [])',
-    'calls scanning (105 ∷ 12 ∷ []) (8 ∷ 8 ∷ 8 ∷ 8 ∷ 8 ∷ []) 0 2 (49 ∷ 50 ∷ 8 ∷ 8 ∷ 8 ∷ [])',
-    'calls scanning (103 ∷ []) (8 ∷ 9 ∷ []) 0 0 (8 ∷ 9 ∷ [])',
-    'calls scanning (103 ∷ 106 ∷ []) (8 ∷ 9 ∷ []) 13 1 (8 ∷ 9 ∷ [])',
-    'calls packing (replicate 35 1) (0 ∷ 0 ∷ 0 ∷ 0 ∷ 0 ∷ 0 ∷ 0 ∷ 77 ∷ []) 0 7 (bytesOf "01 01 FF FF FF FF E0 4D")',
-    'calls unpacking (bytesOf "01 01 00 00 00 00 00") (replicate 36 5) 0 35 (replicate 35 0 ++ (5 ∷ []))',
-    'calls unpacking (bytesOf "01 00") (6 ∷ []) 22 0 (6 ∷ [])',
-], each=3)
+
+
+def shown_text(t):
+    return 'points "%s"' % t, P(t)
+
+
+def shown_list(*ms):
+    return listed(ms), list(ms)
+
+
+def shown_equal(n, m):
+    return "replicate %d %d" % (n, m), [m] * n
+
+
+def then(first, rest):
+    return "%s ++ (%s)" % (first[0], rest[0]), first[1] + rest[1]
+
+
+ROW_A = "11010000100110110011001100011101011"
+entries = []
+for job, given, before, number, second, after in [
+    ("encode", shown_text("À"), shown_equal(37, 7), 0, 1, then(shown_cells(ROW_A), shown_list(7, 7))),
+    ("encode", shown_text("À"), shown_equal(35, 9), 0, 1, shown_cells(ROW_A)),
+    ("encode", shown_text("À"), shown_equal(34, 9), 5, 35, shown_equal(34, 9)),
+    ("encode", shown_text("Ć1"), shown_list(4, 5, 6), 3, 2, shown_list(4, 5, 6)),
+    ("draw", shown_list(105, 2), shown_list(3), 5, 46, shown_list(3)),
+    ("read", shown_cells(ROW_A), shown_list(1, 2, 3), 0, 1, shown_list(103, 2, 3)),
+    ("read", shown_cells(ROW_A[:-1] + "0"), shown_list(1, 2, 3), 15, 34, shown_list(1, 2, 3)),
+    ("spell", shown_list(105, 12), shown_list(8, 8, 8, 8, 8), 0, 3, ("Ć ∷ 49 ∷ 50 ∷ 8 ∷ 8 ∷ []", P("Ć12") + [8, 8])),
+    ("scan", shown_list(105, 12), shown_list(8, 8, 8, 8, 8), 0, 2, shown_list(49, 50, 8, 8, 8)),
+    ("scan", shown_list(103), shown_list(8, 9), 0, 0, shown_list(8, 9)),
+    ("scan", shown_list(103, 106), shown_list(8, 9), 13, 1, shown_list(8, 9)),
+    ("pack", shown_equal(35, 1), shown_list(0, 0, 0, 0, 0, 0, 0, 77), 0, 7, shown_bytes("01 01 FF FF FF FF E0 4D")),
+    ("unpack", shown_bytes("01 01 00 00 00 00 00"), shown_equal(36, 5), 0, 35, then(shown_equal(35, 0), shown_list(5))),
+    ("unpack", shown_bytes("01 00"), shown_list(6), 22, 0, shown_list(6)),
+]:
+    got = getattr(model, job)(len(before[1]), given[1])
+    if got[0] == "refuse":
+        assert got[1:] == (number, second) and after[1] == before[1], (job, given, got)
+    else:
+        assert got[1] == second and number == 0 and after[1] == got[2] + before[1][len(got[2]):], (job, given, got)
+    entries.append("calls %s (%s) (%s) %d %d (%s)" % (job, given[0], before[0], number, second, after[0]))
+table("h", "buffers", "Buffer", """
+By hand from "An accepted call fills the front of its buffer and answers 0 with a number", "Bytes or
+numbers behind that are unchanged" and "A refusal changes no lent memory". An entry has a job, its
+input and the buffer before the call, and then the answer number, the second number and the buffer
+after the call.
+""", entries, each=3)
 states("buffers-hold", "map called buffers ≡ map left buffers")
 
 # ================================================================ i. one block drawn over
@@ -812,31 +905,34 @@ for shown, s, i, m, answer in [
     got = model.read(255, cells)
     assert number != m and got[:2] == answer[:2] and (got[0] == "refuse" and got == answer or got[2] == s[:i] + [m] + s[i + 1:]), (s, i, m, got)
     entries.append("(%s) at %d drawn %d gives %s" % (shown or listed(s), i, m, "refuse %d %d" % answer[1:] if answer[0] == "refuse" else "accept %d (%s)" % answer[1:]))
-table("i", "redrawings", "Redrawn", """By hand: 13 where a START or a data number may not stand; else 14 with the check that the changed list would have; and at the data places 103 and 206,
-whose weight is 0 modulo 103, an acceptance.""", entries, each=2)
+table("i", "redrawings", "Redrawn", """
+By hand: refusal 13 where the new number may not stand; an acceptance at the data places 103 and
+206, whose weight is 0 modulo 103; and otherwise refusal 14 with the check of the changed list.
+""", entries, each=2)
 states("redrawings-hold", "map ruled redrawings ≡ map twice redrawings")
 
 # ================================================================ the files
 
-HEAD = '''-- Examples whose expected values come from outside the definitions: from document 01 by hand, from the standard, from the crate when it is run.
--- Where it says "by hand", a Python program written from document 01 alone gave the same. proofs/Against.antt holds the definitions to the tables,
--- by computation. Assumes nothing.
+HEAD = '''-- Answers from outside that the definitions in specs/ are held to: from document 01 by hand, from
+-- the standard as we know it, and from the crate when it is run. Where a comment says "by hand", a
+-- Python program written from document 01 alone gave the same answer (tools/examples/model.py).
+-- Only proofs use these tables: Against.antt proves by computation that the definitions give every
+-- answer in them. Nobody needs to audit them to know what is promised: that is in specs/.
+-- tools/examples makes this file. Assumes nothing.
 use Prim.Native.Nat.{ℕ, zero, suc, _+_, _-_, _*_, _/_, _%_}
 use Prim.Native.String.{String}
 use mathlib.Core.Bool.{Bool, true, false, _&&_, not}
 use mathlib.Core.List.{List, [], _∷_, _++_}
 use lib.Dec.{ltb, eqb}
 use lib.ListN.{length, take, drop, replicate}
-use Rattle.paper.specs.Answers.{if_then_else_, Answer, refuse, accept, number, second, after}
-use Rattle.paper.specs.Points.{points}
-use Rattle.paper.specs.Iso15417.{check, count, row}
+use Rattle.helpers.specs.Answers.{if_then_else_, Answer, refuse, accept, number, second, after}
+use Rattle.paper.specs.Iso15417.{points, check, count, row}
 use Rattle.paper.specs.Crate.{À, Ɓ, Ć, Parsed, symbols, parse}
-use Rattle.paper.specs.Settle.{settle-computes, settle, inside}
-use Rattle.paper.specs.Chars.{chars-computes}
-use Rattle.paper.specs.Jobs.{Job, encoding, drawing, reading, spelling, scanning, packing, unpacking, answer, encode, draw, read, spell, scan}
+use Rattle.paper.specs.Settle.{settle, inside}
+use Rattle.paper.specs.Jobs.{encode, draw, read, spell, scan, pack, unpack}
 use Rattle.paper.specs.Labels.{Label, _⇒_}
-use Rattle.paper.specs.Rules.{rules-computes}
-use Rattle.paper.specs.Damage.{damage-computes, redrawn, verdict}
+use Rattle.paper.specs.Damage.{redrawn, verdict}
+use Rattle.paper.proofs.Computes.{settle-computes, chars-computes, rules-computes, damage-computes}
 
 -- ---- how the tables are written
 
@@ -852,53 +948,57 @@ digits16 (c ∷ cs) = digit16 c ++ digits16 cs
 unfoldable pub cellsOf : String → List ℕ
 cellsOf text = digits16 (points text)
 
--- cells four to a digit, the first in the top bit: a row of n symbols, and an acceptance with it
+-- the four cells of each digit, the first in the top bit
 unfoldable pub fours : List ℕ → List ℕ
 fours [] = []
 fours (d ∷ ds) = (d / 8) ∷ (d / 4 % 2) ∷ (d / 2 % 2) ∷ (d % 2) ∷ fours ds
 
+-- the row of n symbols, four cells to a digit
 unfoldable pub rowOf : ℕ → String → List ℕ
 rowOf n text = take (11 * n + 24) (fours (cellsOf text))
 
+-- an acceptance with that row
 unfoldable pub accepted : ℕ → String → Answer
 accepted n text = accept n (rowOf n text)
 
--- bytes, two digits each
+-- the numbers of two digits each
 unfoldable pub pairs16 : List ℕ → List ℕ
 pairs16 [] = []
 pairs16 (a ∷ []) = []
 pairs16 (a ∷ b ∷ ds) = (16 * a + b) ∷ pairs16 ds
 
+-- bytes, two digits each
 unfoldable pub bytesOf : String → List ℕ
 bytesOf text = pairs16 (cellsOf text)
 
--- so many blocks of eleven cells, and lists one after the other
+-- the first n blocks of eleven cells
 unfoldable pub elevens : ℕ → List ℕ → List (List ℕ)
 elevens zero cs = []
 elevens (suc n) cs = take 11 cs ∷ elevens n (drop 11 cs)
 
+-- some lists, one after the other
 unfoldable pub joined : List (List ℕ) → List ℕ
 joined [] = []
 joined (xs ∷ xss) = xs ++ joined xss
 
--- a list so many times
+-- n copies of a list, one after the other
 unfoldable pub times : ℕ → List ℕ → List ℕ
 times zero xs = []
 times (suc n) xs = xs ++ times n xs
 
--- ---- what is compared: in each entry of a table, what the definitions say with what the entry says
+-- ---- what is compared: the answers of the definitions with the answers in a table's entries
 
 infix 15 _into_gives_
 infix 15 _is_checked_sends_
 infix 15 _spells_scans_draws_
 infix 15 _becomes_
 infix 15 _at_drawn_gives_
--- a job's input, how many elements the lent buffer has, the answer
+-- a job's input, the number of elements of the lent buffer, and the answer
 pub data Example : Type 0 where
   _into_gives_ : List ℕ → ℕ → Answer → Example
 
-unfoldable pub asked : Job → Example → Answer
-asked j (x into room gives a) = answer j room x
+unfoldable pub asked : (ℕ → List ℕ → Answer) → Example → Answer
+asked job (x into room gives a) = job room x
 
 unfoldable pub given : Example → Answer
 given (x into room gives a) = a
@@ -913,7 +1013,8 @@ parsedAs (x is s checked c sends b) = (parse (points x), check s, scan (length (
 unfoldable pub printedAs : Published → Parsed × ℕ × Answer
 printedAs (x is s checked c sends b) = (symbols s, c, accept (length (points b)) (points b))
 
--- a text, a text behind it, a place, and those of the code points tried that are not refused 3 at that place when put between the two
+-- two texts, a place, and those code points in `tried` that are not refused 3 at that place when
+-- they are put between the texts
 pub data Sweep : Type 0 where
   swept : String → String → ℕ → List ℕ → Sweep
 
@@ -923,15 +1024,16 @@ tried = count 0 512 ++ (0x7FF ∷ 0x800 ∷ 0xD7FF ∷ 0xE000 ∷ 0xFFFF ∷ 0x1
 unfoldable pub passesAt : ℕ → Answer → Bool
 passesAt place a = not (eqb (number a) 3 && eqb (second a) place)
 
+-- the elements that have a property
 unfoldable pub those : (ℕ → Bool) → List ℕ → List ℕ
 those keeps [] = []
 those keeps (c ∷ cs) = (if keeps c then c ∷ [] else []) ++ those keeps cs
 
 unfoldable pub passing : Sweep → List ℕ
-passing (swept ahead behind place found) = those (λ c. passesAt place (encode 2829 (points ahead ++ (c ∷ points behind)))) tried
+passing (swept first rest place found) = those (λ c. passesAt place (encode 2829 (points first ++ (c ∷ points rest)))) tried
 
 unfoldable pub kept : Sweep → List ℕ
-kept (swept ahead behind place found) = found
+kept (swept first rest place found) = found
 
 -- a symbol list, the label that spells it, what a scanner sends for it, and its row
 pub data Listed : Type 0 where
@@ -944,7 +1046,8 @@ unfoldable pub threeAnswers : Listed → List Answer
 threeAnswers (s spells x scans b draws r) =
     accept (length (points x)) (points x) ∷ accept (length (points b)) (points b) ∷ accepted (length s) r ∷ []
 
--- a label with a Ź inside a pair and the label that it becomes when each is moved ahead of its pair; a label with none, which stays
+-- a label with a Ź inside a pair and the label that it becomes when each such Ź is moved ahead of
+-- its pair; or a label with no Ź inside a pair, which stays as it is
 pub data Settled : Type 0 where
   _becomes_ : String → String → Settled
   stays : String → Settled
@@ -957,7 +1060,8 @@ unfoldable pub settled : Settled → Bool × List ℕ
 settled (x becomes y) = (true, points y)
 settled (stays x) = (false, points x)
 
--- a symbol list, a block of its row, the number that is drawn over it, and what read answers then; said by the rule, and read off the row
+-- a symbol list, a block of its row, the number that is drawn over it, and what read answers then:
+-- `verdict` must say the same, and so must `read` of the changed row
 pub data Redrawn : Type 0 where
   _at_drawn_gives_ : List ℕ → ℕ → ℕ → Answer → Redrawn
 
@@ -967,49 +1071,52 @@ ruled (s at i drawn m gives a) = verdict s i m ∷ read 255 (redrawn i m (row s)
 unfoldable pub twice : Redrawn → List Answer
 twice (s at i drawn m gives a) = a ∷ a ∷ []
 
--- a job, its input and the buffer lent to it; then the answer number, the second number and the buffer
+-- a job, its input and the buffer lent to it; then the answer number, the second number and what
+-- the buffer holds after the call
 pub data Buffer : Type 0 where
-  calls : Job → List ℕ → List ℕ → ℕ → ℕ → List ℕ → Buffer
+  calls : (ℕ → List ℕ → Answer) → List ℕ → List ℕ → ℕ → ℕ → List ℕ → Buffer
 
 unfoldable pub gave : Answer → List ℕ → ℕ × ℕ × List ℕ
 gave a buf = (number a, second a, after a buf)
 
 unfoldable pub called : Buffer → ℕ × ℕ × List ℕ
-called (calls j x buf k m out) = gave (answer j (length buf) x) buf
+called (calls job x buf k m out) = gave (job (length buf) x) buf
 
 unfoldable pub left : Buffer → ℕ × ℕ × List ℕ
-left (calls j x buf k m out) = (k, m, out)
+left (calls job x buf k m out) = (k, m, out)
 
 '''
 
 HELPERS = [line.split()[2] for line in HEAD.split("\n") if line.startswith("unfoldable pub ")]
 NAMES = [t.split("unfoldable pub ")[k].split()[0] for t in TABLES for k in range(1, t.count("unfoldable pub ") + 1)]
-TAIL = """-- what a proof by computation names on its `unfolding` line: it opens every definition above
+TAIL = """-- a proof by computation names this on its `unfolding` line: it opens every definition above
 unfoldable pub examples-computes : Unit {0}
 unfolding %s %s settle-computes chars-computes rules-computes damage-computes
 examples-computes = tt
 """ % (" ".join(HELPERS), " ".join(NAMES))
 
-PROOFS = """-- The definitions meet every example, by computation.
--- Assumes nothing.
+PROOFS = """-- The definitions give every answer in the tables of Examples.antt, by computation.
+-- tools/examples makes this file. Assumes nothing.
 use mathlib.Core.Path.{_≡_, refl}
 use mathlib.Core.List.{map}
 use Rattle.paper.specs.Iso15417.{cells, count, stop}
 use Rattle.paper.specs.Chars.{chars}
 use Rattle.paper.specs.Rules.{runs, barCells}
-use Rattle.paper.specs.Jobs.{encoding, drawing, reading, spelling, scanning, packing, unpacking}
+use Rattle.paper.specs.Jobs.{encode, draw, read, spell, scan, pack, unpack}
 use Rattle.paper.specs.Labels.{answered, expected}
 %s
 """
 used = ["examples-computes"] + [n for n in HELPERS + NAMES if any(n in st.replace("(", "").replace(")", "").split() for _, st in STATEMENTS)]
 lines = textwrap.wrap(", ".join(used), 120, break_on_hyphens=False)
-PROOFS = PROOFS % "\n".join("use Rattle.paper.specs.Examples.{%s}" % line.rstrip(",") for line in lines)
+PROOFS = PROOFS % "\n".join("use Rattle.paper.proofs.Examples.{%s}" % line.rstrip(",") for line in lines)
 for name, statement in STATEMENTS:
     PROOFS += "\npub %s : %s\nunfolding examples-computes%s\n%s = refl\n" % (name, statement, " answered expected" if "answered" in statement else "", name)
 
 if __name__ == "__main__":
-    for where, body in ((("specs", "Examples.antt"), HEAD + "\n".join(TABLES) + "\n" + TAIL), (("proofs", "Against.antt"), PROOFS)):
-        with open(os.path.join(REPOSITORY, "crates", "paper", *where), "w", encoding="utf-8") as f:
+    for path, body in ((EXAMPLES, HEAD + "\n".join(TABLES) + "\n" + TAIL), (AGAINST, PROOFS)):
+        assert all(len(line) <= 100 for line in body.split("\n") if line.startswith("--"))
+        with open(path, "w", encoding="utf-8") as f:
             f.write(body)
     print("\n".join("%s %-18s %d" % c for c in COUNTS))
-    print(sum(c for _, n, c in COUNTS if n != "sweeps"), "and", sum(c for _, n, c in COUNTS if n == "sweeps"), "swept")
+    swept = sum(c for _, n, c in COUNTS if n == "sweeps")
+    print(sum(c for _, _, c in COUNTS) - swept, "and", swept, "swept")

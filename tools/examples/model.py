@@ -1,13 +1,13 @@
-"""The seven jobs of document 01, written from its text alone: neither from the crate nor from specs/.
+"""The seven jobs of document 01, written from its text alone: not from the crate, nor from specs/.
 
-Only the bar patterns are taken from elsewhere, the crate's `CHARS`, as document 01 says. An answer is ("refuse", number, second) or
-("accept", number, list). `room` is how many elements the lent buffer has.
+Only the bar patterns come from elsewhere: from the crate's `CHARS`, as document 01 says. An answer
+is ("refuse", number, second) or ("accept", second, list). `room` is the number of elements of the
+lent buffer.
 """
 import re
 
 PATTERNS = []
 STOP = "1100011101011"
-LETTER = {"À": 0xC0, "Ɓ": 0x181, "Ć": 0x106, "Ź": 0x179, "ź": 0x17A, "Ż": 0x17B, "ż": 0x17C, "Ž": 0x17D, "÷": 0xF7}
 START = {0xC0: 103, 0x181: 104, 0x106: 105}
 SET_OF = {0xC0: "A", 0x181: "B", 0x106: "C"}
 
@@ -15,7 +15,8 @@ SET_OF = {0xC0: "A", 0x181: "B", 0x106: "C"}
 def load_patterns(code128_rs):
     source = open(code128_rs, encoding="utf-8").read()
     table = source[source.index("const CHARS"):source.index("// Stop sequence")]
-    PATTERNS[:] = ["".join(re.findall(r"[01]", m)) for m in re.findall(r"\[((?:[01], ){10}[01])\]", table)]
+    blocks = re.findall(r"\[((?:[01], ){10}[01])\]", table)
+    PATTERNS[:] = ["".join(re.findall(r"[01]", block)) for block in blocks]
     assert len(PATTERNS) == 106 and len(set(PATTERNS)) == 106
 
 
@@ -23,8 +24,8 @@ def refuse(number, second):
     return ("refuse", number, second)
 
 
-def into(room, number, out):
-    return ("accept", number, list(out)) if len(out) <= room else refuse(5, len(out))
+def into(room, second, out):
+    return ("accept", second, list(out)) if len(out) <= room else refuse(5, len(out))
 
 
 def _tables():
@@ -56,7 +57,8 @@ def check_of(symbols):
 
 
 def cells_of(symbols):
-    return [int(d) for m in symbols + [check_of(symbols)] for d in PATTERNS[m]] + [int(d) for d in STOP]
+    blocks = [PATTERNS[m] for m in symbols + [check_of(symbols)]]
+    return [int(d) for d in "".join(blocks) + STOP]
 
 
 def parse(points):
@@ -97,7 +99,7 @@ def encode(room, points):
 
 
 def _list(symbols):
-    """None, or the refusal of a symbol list."""
+    """Refusal 10 or 13 of a symbol list, or None."""
     if not 1 <= len(symbols) <= 255:
         return refuse(10, len(symbols))
     if symbols[0] not in (103, 104, 105):
@@ -113,7 +115,7 @@ def draw(room, symbols):
 
 
 def _walk(symbols):
-    """Each number with the set in which it stands, the START left out, and the set it leads to."""
+    """Each number after the START, with the set that is current at its place."""
     now = {103: "A", 104: "B", 105: "C"}[symbols[0]]
     for m in symbols[1:]:
         yield now, m
@@ -151,6 +153,7 @@ def scan(room, symbols):
 
 
 def _row(cells):
+    """Refusal 10 or 11 of a row, or None."""
     if len(cells) not in range(35, 2830, 11):
         return refuse(10, len(cells))
     for place, c in enumerate(cells):
@@ -211,7 +214,7 @@ def unpack(room, record):
 
 
 def settle(points):
-    """Demand 3: every Ź standing between the two digits of a set C pair is moved ahead of that pair."""
+    """Demand 3: every Ź between the two digits of a set C pair is moved ahead of that pair."""
     text, in_c, i, out = list(points), False, 0, []
     while i < len(text):
         c = text[i]

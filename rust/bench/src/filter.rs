@@ -1,18 +1,20 @@
-//! The label program as it would be written over the crate barcoders: a line of code points in, a line of cells out.
+//! The label program as one would write it with the crate barcoders: a line of code points in, a
+//! line of cells out.
 //!
-//! For a line that is accepted it writes what the label program writes. The crate does not say where parsing stops, so that the second
-//! number of refusal 3 is a `?` here; and a line of any length is held in memory as a whole.
+//! It writes what the label program writes, with one difference: the crate does not give the place
+//! where parsing stops, so that the second number of refusal 3 is a `?` here. It holds a whole line
+//! in memory, however long the line is.
 use barcoders::error::Error;
 use barcoders::sym::code128::Code128;
 use std::io::{self, BufRead, Write};
 
-/// The most bytes of a line.
+/// The most bytes that a line may have.
 const LINE: usize = 4096;
 
-/// The most symbols of a label.
+/// The most symbols that a label may have.
 const MOST: usize = 255;
 
-/// The number that one to six upper-case hex digits write.
+/// The number that is written with one to six upper-case hex digits.
 fn number(digits: &[u8]) -> Option<u32> {
     if !(1..=6).contains(&digits.len()) {
         return None;
@@ -24,7 +26,7 @@ fn number(digits: &[u8]) -> Option<u32> {
     })
 }
 
-/// Reads a line's code points into `points`; false where it is of another form.
+/// Reads the code points of a line into `points`; false if the line has another form.
 fn read_line(line: &[u8], points: &mut Vec<u32>) -> bool {
     points.clear();
     if line.is_empty() {
@@ -33,10 +35,12 @@ fn read_line(line: &[u8], points: &mut Vec<u32>) -> bool {
     if line.len() > LINE {
         return false;
     }
-    line.split(|&byte| byte == b' ').all(|digits| number(digits).map(|point| points.push(point)).is_some())
+    line.split(|&byte| byte == b' ')
+        .all(|digits| number(digits).map(|point| points.push(point)).is_some())
 }
 
-/// Makes the code points a text; the place of the first that is no scalar value otherwise.
+/// Writes the code points to `text`, or returns the place of the first one that is not a scalar
+/// value.
 fn read_points(points: &[u32], text: &mut String) -> Result<(), usize> {
     text.clear();
     for (place, &point) in points.iter().enumerate() {
@@ -45,7 +49,7 @@ fn read_points(points: &[u32], text: &mut String) -> Result<(), usize> {
     Ok(())
 }
 
-/// Writes what a text gives: the row's cells, or why there are none.
+/// Writes the answer to a text: the cells of its row, or the refusal.
 fn write_text(text: &str, out: &mut Vec<u8>) -> io::Result<()> {
     match Code128::new(text).map(|barcode| barcode.encode()) {
         Err(Error::Length) => write!(out, "2 0"),
@@ -61,9 +65,10 @@ fn write_text(text: &str, out: &mut Vec<u8>) -> io::Result<()> {
     }
 }
 
-/// Answers every line of the input; the buffers are used again for each.
+/// Answers every line of the input, with the same buffers.
 pub fn run(mut input: impl BufRead, mut output: impl Write) -> io::Result<()> {
-    let (mut line, mut points, mut text, mut out) = (Vec::new(), Vec::new(), String::new(), Vec::new());
+    let (mut line, mut points, mut text, mut out) =
+        (Vec::new(), Vec::new(), String::new(), Vec::new());
     while input.read_until(b'\n', &mut line)? > 0 {
         let content = line.strip_suffix(b"\n").unwrap_or(&line);
         if read_line(content, &mut points) {

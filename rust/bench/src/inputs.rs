@@ -1,11 +1,11 @@
-//! What is timed and tested: random labels of exactly n symbols, the same in every run.
+//! The inputs of times and tests: random labels of exactly n symbols, the same in every run.
 use slatmonief::{draw_symbols, pack_row, spell_symbols};
 
-/// A small generator of numbers with a fixed beginning (splitmix64), so that every run has the same inputs.
+/// A small generator of random numbers (SplitMix64), so that every run has the same inputs.
 pub struct Numbers(u64);
 
 impl Numbers {
-    /// Begins at a seed.
+    /// The generator of a seed.
     pub fn new(seed: u64) -> Numbers {
         Numbers(seed)
     }
@@ -39,12 +39,12 @@ pub enum Kind {
     B,
     /// Set C, the pairs 0 to 99.
     C,
-    /// Any START and then any number at any place, so with function symbols and with switches.
+    /// Any START and then any data numbers, so with function symbols and switches.
     Mixed,
 }
 
 impl Kind {
-    /// The name in a table.
+    /// Its name in a table.
     pub fn name(self) -> &'static str {
         match self {
             Kind::A => "A",
@@ -54,7 +54,7 @@ impl Kind {
         }
     }
 
-    /// The START and the end of the numbers behind it.
+    /// The START, and the end of the range of the data numbers.
     fn numbers(self, random: &mut Numbers) -> (u8, u8) {
         match self {
             Kind::A => (103, 96),
@@ -65,11 +65,11 @@ impl Kind {
     }
 }
 
-/// One label in each form that a job takes.
+/// One label in every form that a job takes.
 pub struct Label {
     /// The symbol list.
     pub symbols: Vec<u8>,
-    /// Its text for the crate.
+    /// Its text, for the crate.
     pub text: String,
     /// Its text as code points.
     pub points: Vec<u32>,
@@ -93,11 +93,19 @@ pub fn label(symbols: Vec<u8>) -> Label {
     let points = text.chars().map(u32::from).collect();
     let row = draw_symbols(&symbols).expect("a symbol list");
     let record = pack_row(&row).expect("a row");
-    Label { symbols, text, points, row, record }
+    Label {
+        symbols,
+        text,
+        points,
+        row,
+        record,
+    }
 }
 
-/// So many different labels of exactly n symbols.
+/// `count` random labels of exactly n symbols.
 pub fn labels(kind: Kind, n: usize, count: usize) -> Vec<Label> {
     let mut random = Numbers::new(1000 * kind as u64 + n as u64);
-    (0..count).map(|_| label(list(&mut random, kind, n))).collect()
+    (0..count)
+        .map(|_| label(list(&mut random, kind, n)))
+        .collect()
 }

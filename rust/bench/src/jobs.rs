@@ -1,4 +1,4 @@
-//! The seven jobs beside plain Rust, and encode beside the crate.
+//! Times the seven jobs against plain Rust, and encode against the crate.
 use crate::report::Table;
 use crate::timing::{measure, Side};
 use barcoders::sym::code128::Code128;
@@ -11,10 +11,11 @@ use std::hint::black_box;
 /// The sizes of the labels.
 const SIZES: [usize; 4] = [2, 14, 50, 255];
 
-/// The kinds of label; `Mixed` is reported beside them.
+/// The kinds of label; `Mixed` has no target for encode.
 const KINDS: [Kind; 4] = [Kind::A, Kind::B, Kind::C, Kind::Mixed];
 
-/// So many different labels are gone over in a batch: more where they are short, so that the processor does not learn their symbols by heart.
+/// The number of labels in a batch. It is larger for short labels, so that the processor does not
+/// learn their symbols by heart.
 fn count(n: usize) -> usize {
     (4096 / n).clamp(16, 256)
 }
@@ -22,17 +23,17 @@ fn count(n: usize) -> usize {
 /// The size of every lent buffer: enough for any job.
 const ROOM: usize = 2829;
 
-/// Every lent buffer begins where a page of the memory does: a write across the end of a page takes some 12 ns more, which would meet
-/// one buffer and not another.
+/// Every lent buffer begins at the beginning of a page of memory: a write across the end of a page
+/// takes about 12 ns more, and without this it would occur with one buffer and not with another.
 const PAGE: usize = 4096;
 
-/// The most that the library may take of the crate's time.
+/// The target for the library's time, as a part of the crate's time.
 const OF_CRATE: f64 = 0.06;
 
-/// The most that the library may take of plain Rust's time.
+/// The target for the library's time, as a part of plain Rust's time.
 const OF_PLAIN: f64 = 1.5;
 
-/// A side that lends one buffer to a job over and over.
+/// A side that calls a job on its inputs, always with the same buffer.
 pub fn lent<'a, I, O, R>(inputs: &[&'a [I]], job: impl Fn(&[I], &mut [O]) -> R + 'a) -> Side<'a>
 where
     O: Copy + Default + 'a,
@@ -47,8 +48,11 @@ where
 }
 
 /// Asserts that both sides answer the same and leave the same buffer on every input.
-fn agree<I, O>(inputs: &[&[I]], job: impl Fn(&[I], &mut [O]) -> Result<usize, Refusal>, plain: impl Fn(&[I], &mut [O]) -> Answer)
-where
+fn agree<I, O>(
+    inputs: &[&[I]],
+    job: impl Fn(&[I], &mut [O]) -> Result<usize, Refusal>,
+    plain: impl Fn(&[I], &mut [O]) -> Answer,
+) where
     O: Copy + Default + PartialEq + Debug,
 {
     for input in inputs {
@@ -59,30 +63,41 @@ where
     }
 }
 
-/// Asserts that the crate gives the rows of the library.
+/// Asserts that the crate makes the same rows as the library.
 fn agree_with_crate(labels: &[Label]) {
     for label in labels {
-        let row = Code128::new(&label.text).expect("the inputs are all accepted").encode();
+        let row = Code128::new(&label.text)
+            .expect("the inputs are all accepted")
+            .encode();
         assert_eq!(row, label.row);
-        assert_eq!(row, slatmonief::encode_str(&label.text).expect("the inputs are all accepted"));
+        assert_eq!(
+            row,
+            slatmonief::encode_str(&label.text).expect("the inputs are all accepted")
+        );
     }
 }
 
-/// The first columns of a line.
+/// The first columns of a line of a table.
 fn key(kind: Kind, n: usize) -> String {
     format!("{} | {n}", kind.name())
 }
 
-/// A target that the mixed labels do not have: they are reported.
+/// The target, which mixed labels do not have: they are only reported.
 fn unless_mixed(kind: Kind, target: f64) -> Option<f64> {
     (kind != Kind::Mixed).then_some(target)
 }
 
-/// Encode, beside the crate and beside plain Rust in the same rounds; and `Code128` of the library's face, which makes vectors, beside the crate's.
+/// Times encode against the crate and against plain Rust, in the same rounds; and the `Code128` of
+/// the library's Rust crate, which makes vectors, against the crate's.
 pub fn encode(rounds: usize) -> Vec<Table> {
     let mut of_crate = Table::new("Encode beside the crate", "set | n", "ns", "crate");
     let mut of_plain = Table::new("Encode beside plain Rust", "set | n", "ns", "plain");
-    let mut same_face = Table::new("`Code128::new(text)` and `encode()` of the library's Rust face beside the crate's", "set | n", "ns", "crate");
+    let mut same_face = Table::new(
+        "`Code128::new(text)` and `encode()` of the library's Rust face beside the crate's",
+        "set | n",
+        "ns",
+        "crate",
+    );
     for (kind, n) in KINDS.into_iter().flat_map(|kind| SIZES.map(|n| (kind, n))) {
         let labels = labels(kind, n, count(n));
         let points: Vec<&[u32]> = labels.iter().map(|l| &l.points[..]).collect();
@@ -92,27 +107,60 @@ pub fn encode(rounds: usize) -> Vec<Table> {
         let mut sides = [
             lent(&points, slatmonief::encode),
             lent(&points, plain::encode),
-            Side::new(texts.clone(), |text: &str| drop(black_box(Code128::new(text).unwrap().encode()))),
-            Side::new(texts, |text: &str| drop(black_box(slatmonief::sym::code128::Code128::new(text).unwrap().encode()))),
+            Side::new(texts.clone(), |text: &str| {
+                drop(black_box(Code128::new(text).unwrap().encode()))
+            }),
+            Side::new(texts, |text: &str| {
+                drop(black_box(
+                    slatmonief::sym::code128::Code128::new(text)
+                        .unwrap()
+                        .encode(),
+                ))
+            }),
         ];
         let times = measure(&mut sides, rounds);
-        of_crate.add(key(kind, n), &times[0], &times[2], unless_mixed(kind, OF_CRATE));
-        of_plain.add(key(kind, n), &times[0], &times[1], unless_mixed(kind, OF_PLAIN));
+        of_crate.add(
+            key(kind, n),
+            &times[0],
+            &times[2],
+            unless_mixed(kind, OF_CRATE),
+        );
+        of_plain.add(
+            key(kind, n),
+            &times[0],
+            &times[1],
+            unless_mixed(kind, OF_PLAIN),
+        );
         same_face.add(key(kind, n), &times[3], &times[2], None);
     }
     vec![of_crate, of_plain, same_face]
 }
 
-/// Read, beside the plain nested search and beside the table-driven reader in the same rounds.
+/// Times read against the plain nested search and against a reader with a table, in the same
+/// rounds.
 pub fn read(rounds: usize) -> Vec<Table> {
-    let mut of_plain = Table::new("Read beside plain Rust with the same nested search", "set | n", "ns", "plain");
-    let mut of_table = Table::new("Read beside a table-driven reader (the limit)", "set | n", "ns", "table");
+    let mut of_plain = Table::new(
+        "Read beside plain Rust with the same nested search",
+        "set | n",
+        "ns",
+        "plain",
+    );
+    let mut of_table = Table::new(
+        "Read beside a table-driven reader (the limit)",
+        "set | n",
+        "ns",
+        "table",
+    );
     for n in SIZES {
         let labels = labels(Kind::Mixed, n, count(n));
         let rows: Vec<&[u8]> = labels.iter().map(|l| &l.row[..]).collect();
         agree(&rows, slatmonief::read, plain::read);
         agree(&rows, slatmonief::read, plain::table_read);
-        let mut sides = [lent(&rows, slatmonief::read), lent(&rows, plain::read), lent(&rows, plain::table_read)];
+        let mut sides = [
+            lent(&rows, slatmonief::read),
+            lent(&rows, plain::read),
+            lent(&rows, plain::table_read),
+        ];
         let times = measure(&mut sides, rounds);
         of_plain.add(key(Kind::Mixed, n), &times[0], &times[1], Some(OF_PLAIN));
         of_table.add(key(Kind::Mixed, n), &times[0], &times[2], None);
@@ -120,17 +168,20 @@ pub fn read(rounds: usize) -> Vec<Table> {
     vec![of_plain, of_table]
 }
 
-/// A job beside plain Rust on every kind of label; the macro takes the job's name, so that both sides are called directly.
-macro_rules! beside_plain {
+/// Times a job against plain Rust on some kinds of label. A macro, so that both sides are called
+/// directly by the job's name.
+macro_rules! against_plain {
     ($(#[$doc:meta])* $job:ident, $title:literal, $input:ident, $kinds:expr, $target:expr) => {
         $(#[$doc])*
         pub fn $job(rounds: usize) -> Vec<Table> {
-            let mut table = Table::new(concat!($title, " beside plain Rust"), "set | n", "ns", "plain");
+            let title = concat!($title, " beside plain Rust");
+            let mut table = Table::new(title, "set | n", "ns", "plain");
             for (kind, n) in $kinds.into_iter().flat_map(|kind| SIZES.map(|n| (kind, n))) {
                 let labels = labels(kind, n, count(n));
                 let inputs: Vec<&[u8]> = labels.iter().map(|l| &l.$input[..]).collect();
                 agree(&inputs, slatmonief::$job, plain::$job);
-                let times = measure(&mut [lent(&inputs, slatmonief::$job), lent(&inputs, plain::$job)], rounds);
+                let mut sides = [lent(&inputs, slatmonief::$job), lent(&inputs, plain::$job)];
+                let times = measure(&mut sides, rounds);
                 table.add(key(kind, n), &times[0], &times[1], $target);
             }
             vec![table]
@@ -138,23 +189,23 @@ macro_rules! beside_plain {
     };
 }
 
-beside_plain! {
-    /// Draw: reported, since encode has its passes.
+against_plain! {
+    /// Times draw; it is only reported, since encode makes the same passes.
     draw, "Draw", symbols, [Kind::Mixed], None
 }
-beside_plain! {
-    /// Spell, on every kind of label: what a number gives depends on its set.
+against_plain! {
+    /// Times spell on every kind of label: what it writes for a number depends on the set.
     spell, "Spell", symbols, KINDS, Some(OF_PLAIN)
 }
-beside_plain! {
-    /// Scan, likewise.
+against_plain! {
+    /// Times scan, on the same labels.
     scan, "Scan", symbols, KINDS, Some(OF_PLAIN)
 }
-beside_plain! {
-    /// Pack, which sees cells only.
+against_plain! {
+    /// Times pack, which works on cells only.
     pack, "Pack", row, [Kind::Mixed], Some(OF_PLAIN)
 }
-beside_plain! {
-    /// Unpack, which sees bytes only.
+against_plain! {
+    /// Times unpack, which works on bytes only.
     unpack, "Unpack", record, [Kind::Mixed], Some(OF_PLAIN)
 }

@@ -1,4 +1,5 @@
-//! What the library is timed beside: the same jobs in plain Rust, and the label program's filter over the crate barcoders.
+//! What the library is timed against: the same jobs in plain Rust, and the label program written
+//! with the crate barcoders. Also the inputs.
 pub mod filter;
 pub mod inputs;
 pub mod patterns;

@@ -1,5 +1,5 @@
-//! Times the library beside the crate and beside plain Rust, and prints the tables of docs/BENCHMARKS.md:
-//! cargo run --release -p bench [-- [PART...] [--rounds N]]
+//! Times the library against the crate and against plain Rust, and prints the tables of
+//! docs/BENCHMARKS.md: `cargo run --release -p bench [-- [PART...] [--rounds N]]`.
 mod growth;
 mod jobs;
 mod program;
@@ -11,9 +11,11 @@ use std::process::{Command, ExitCode};
 use std::{env, fs, io, thread};
 
 /// The parts of a run, in their order.
-const PARTS: [&str; 10] = ["encode", "draw", "read", "spell", "scan", "pack", "unpack", "growth", "label", "memory"];
+const PARTS: [&str; 10] = [
+    "encode", "draw", "read", "spell", "scan", "pack", "unpack", "growth", "label", "memory",
+];
 
-/// How often each side is timed where nothing else is asked.
+/// The number of rounds, unless the command line gives another.
 const ROUNDS: usize = 101;
 
 /// What the command line asks for.
@@ -22,9 +24,12 @@ struct Options {
     rounds: usize,
 }
 
-/// Reads the command line; no part is all parts.
+/// Reads the command line; without a part, all parts are meant.
 fn options(args: impl Iterator<Item = String>) -> Option<Options> {
-    let mut options = Options { parts: Vec::new(), rounds: ROUNDS };
+    let mut options = Options {
+        parts: Vec::new(),
+        rounds: ROUNDS,
+    };
     let mut args = args;
     while let Some(arg) = args.next() {
         match arg.as_str() {
@@ -42,14 +47,24 @@ fn options(args: impl Iterator<Item = String>) -> Option<Options> {
 /// Prints the machine and the compiler.
 fn print_machine() {
     let info = fs::read_to_string("/proc/cpuinfo").unwrap_or_default();
-    let model = info.lines().find(|line| line.starts_with("model name")).and_then(|line| line.split(": ").nth(1)).unwrap_or("unknown");
+    let model = info
+        .lines()
+        .find(|line| line.starts_with("model name"))
+        .and_then(|line| line.split(": ").nth(1))
+        .unwrap_or("unknown");
     let cores = thread::available_parallelism().map_or(1, |n| n.get());
-    let rustc = Command::new(env::var("RUSTC").unwrap_or_else(|_| "rustc".to_string())).arg("--version").output();
-    let rustc = rustc.map_or_else(|_| "unknown".to_string(), |output| String::from_utf8_lossy(&output.stdout).trim().to_string());
+    let rustc = Command::new(env::var("RUSTC").unwrap_or_else(|_| "rustc".to_string()))
+        .arg("--version")
+        .output();
+    let rustc = rustc.map_or_else(
+        |_| "unknown".to_string(),
+        |output| String::from_utf8_lossy(&output.stdout).trim().to_string(),
+    );
     println!("Processor: {model}, {cores} cores. Compiler: {rustc}.");
 }
 
-/// Runs one part and prints it; answers how many targets it has and those that are not reached.
+/// Runs one part and prints it; returns the number of its targets and a sentence for each that is
+/// not reached.
 fn run(part: &str, rounds: usize) -> io::Result<(usize, Vec<String>)> {
     let tables: Vec<Table> = match part {
         "encode" => jobs::encode(rounds),
@@ -64,29 +79,42 @@ fn run(part: &str, rounds: usize) -> io::Result<(usize, Vec<String>)> {
         _ => return program::memory().map(|_| (0, Vec::new())),
     };
     tables.iter().for_each(Table::print);
-    let (asked, missed): (Vec<usize>, Vec<Vec<String>>) = tables.iter().map(Table::verdicts).unzip();
+    let (asked, missed): (Vec<usize>, Vec<Vec<String>>) =
+        tables.iter().map(Table::verdicts).unzip();
     Ok((asked.iter().sum(), missed.concat()))
 }
 
-/// Runs the parts that are asked for, and says at the end which targets are not reached.
+/// Runs the parts that are asked for, and prints at the end which targets are not reached.
 fn run_all(options: &Options) -> io::Result<()> {
     print_machine();
-    println!("In each round the sides come in turn; the ratio is that of the medians, its quartiles are those of the rounds.");
+    println!(
+        "In each round the sides come in turn; the ratio is that of the medians, its quartiles \
+         are those of the rounds."
+    );
     let (mut asked, mut missed) = (0, Vec::new());
-    for part in PARTS.iter().filter(|part| options.parts.iter().any(|p| p == *part)) {
+    for part in PARTS
+        .iter()
+        .filter(|part| options.parts.iter().any(|p| p == *part))
+    {
         let (targets, not_reached) = run(part, options.rounds)?;
         asked += targets;
         missed.extend(not_reached);
     }
-    println!("\n### Targets\n\n{} of {asked} reached.", asked - missed.len());
+    println!(
+        "\n### Targets\n\n{} of {asked} reached.",
+        asked - missed.len()
+    );
     missed.iter().for_each(|m| println!("- Not reached: {m}"));
     Ok(())
 }
 
-/// Says how it is used where the command line is not understood; times nothing that is not optimised.
+/// Prints the usage if the command line cannot be read; times only an optimised build.
 fn main() -> ExitCode {
     let Some(options) = options(env::args().skip(1)) else {
-        eprintln!("cargo run --release -p bench [-- [PART...] [--rounds N]], where PART is one of: {}", PARTS.join(", "));
+        eprintln!(
+            "cargo run --release -p bench [-- [PART...] [--rounds N]], where PART is one of: {}",
+            PARTS.join(", ")
+        );
         return ExitCode::from(2);
     };
     if cfg!(debug_assertions) {

@@ -1,14 +1,15 @@
-//! The seven jobs in plain, safe Rust, with the passes of the library over the same data and all of its refusals: the measure of
-//! what the library's own code costs. Every entry is kept from being inlined, as the library's are.
+//! The seven jobs in plain, safe Rust. They go over the same data in the same passes as the library
+//! and have all of its refusals, so that their time shows what the library's own code costs. Their
+//! public functions are never inlined, as those of the library.
 use crate::patterns::{CHARS, MOST, NONE, STOP, SYMBOLS};
 
-/// 0 and the number of an acceptance, or a refusal's number and its second number.
+/// The answer number, which is 0 or the number of a refusal, and the second number.
 pub type Answer = (u32, usize);
 
-/// FNC1, the one code point that may stand between the digits of a pair.
+/// Ź, which is FNC1: the only code point that is allowed between the digits of a pair.
 const FNC1: u32 = 0x179;
 
-/// The three character sets, and `None` before the START.
+/// The current character set; `None` before the START.
 #[derive(Clone, Copy, PartialEq, Eq)]
 enum Set {
     None,
@@ -18,7 +19,7 @@ enum Set {
 }
 
 impl Set {
-    /// The number of a code point in the set; the pairs of set C are the parser's.
+    /// The number of a code point in the set. The parser does the pairs of set C.
     fn number(self, c: u32) -> Option<u8> {
         let number = match (self, c) {
             (Set::A, 0x20..=0x5F) | (Set::B, 0x20..=0x7E) => c - 0x20,
@@ -39,7 +40,7 @@ impl Set {
         Some(number as u8)
     }
 
-    /// The set after a symbol: a START or a switch moves it. In set C 99 is a pair.
+    /// The set after a symbol: a START or a switch changes it. In set C, 99 is a pair.
     fn next(self, number: u8) -> Set {
         match (self, number) {
             (Set::A | Set::B, 99) | (Set::None, 105) => Set::C,
@@ -50,7 +51,7 @@ impl Set {
     }
 }
 
-/// What one number gives when it is spelled or scanned.
+/// What is written for one number when it is spelled or scanned.
 #[derive(Clone, Copy)]
 enum Said {
     Nothing,
@@ -58,8 +59,8 @@ enum Said {
     Two(u32, u32),
 }
 
-/// The two numbers of an acceptance or a refusal.
-fn told(result: Result<usize, Answer>) -> Answer {
+/// The two numbers of a result.
+fn answer(result: Result<usize, Answer>) -> Answer {
     match result {
         Ok(n) => (0, n),
         Err(refusal) => refusal,
@@ -69,52 +70,53 @@ fn told(result: Result<usize, Answer>) -> Answer {
 /// Code points to a row.
 #[inline(never)]
 pub fn encode(text: &[u32], row: &mut [u8]) -> Answer {
-    told(try_encode(text, row))
+    answer(try_encode(text, row))
 }
 
 /// A symbol list to a row.
 #[inline(never)]
 pub fn draw(symbols: &[u8], row: &mut [u8]) -> Answer {
-    told(vet(symbols).and_then(|_| write_row(symbols, row)))
+    answer(vet(symbols).and_then(|_| write_row(symbols, row)))
 }
 
-/// A row to its symbol list, by the nested search.
+/// A row to its symbol list, with the nested search.
 #[inline(never)]
 pub fn read(row: &[u8], symbols: &mut [u8]) -> Answer {
-    told(try_read(row, symbols, search))
+    answer(try_read(row, symbols, search))
 }
 
-/// A row to its symbol list, by a table of all eleven-bit words: what a reader could gain.
+/// A row to its symbol list, with a table of all words of eleven bits: how fast a reader could be.
 #[inline(never)]
 pub fn table_read(row: &[u8], symbols: &mut [u8]) -> Answer {
-    told(try_read(row, symbols, look_up))
+    answer(try_read(row, symbols, look_up))
 }
 
 /// A symbol list to the code points that encode to it.
 #[inline(never)]
 pub fn spell(symbols: &[u8], text: &mut [u32]) -> Answer {
-    told(tell(symbols, text, letters, |c| c))
+    answer(try_say(symbols, text, letters, |c| c))
 }
 
 /// A symbol list to the bytes that a scanner sends.
 #[inline(never)]
 pub fn scan(symbols: &[u8], bytes: &mut [u8]) -> Answer {
-    told(tell(symbols, bytes, sent, |c| c as u8))
+    answer(try_say(symbols, bytes, sent, |c| c as u8))
 }
 
 /// A row's cells to a row record.
 #[inline(never)]
 pub fn pack(row: &[u8], record: &mut [u8]) -> Answer {
-    told(try_pack(row, record))
+    answer(try_pack(row, record))
 }
 
 /// A row record to its cells.
 #[inline(never)]
 pub fn unpack(record: &[u8], row: &mut [u8]) -> Answer {
-    told(try_unpack(record, row))
+    answer(try_unpack(record, row))
 }
 
-/// Encode's passes, as the library makes them: what parses to its end has passed 1 and 2, so they are asked where parsing stops.
+/// Encode with the passes of the library: a text that parses to its end has neither refusal 1 nor
+/// 2, so these are tested only where parsing stops.
 fn try_encode(text: &[u32], row: &mut [u8]) -> Result<usize, Answer> {
     let mut list = [0; MOST];
     let n = parse(text, &mut list).map_err(|place| stopped(text, place))?;
@@ -122,7 +124,8 @@ fn try_encode(text: &[u32], row: &mut [u8]) -> Result<usize, Answer> {
     write_row(symbols, row)
 }
 
-/// Where parsing stops: 1 and 2, each over the whole text, and else 3 at that place.
+/// The refusal of a text whose parsing stops at this place: 1 or 2, each tested over the whole
+/// text, otherwise 3.
 fn stopped(text: &[u32], place: usize) -> Answer {
     if let Some(at) = text.iter().position(|&c| char::from_u32(c).is_none()) {
         return (1, at);
@@ -138,7 +141,8 @@ fn digit(c: u32) -> Option<u8> {
     matches!(c, 0x30..=0x39).then(|| (c - 0x30) as u8)
 }
 
-/// The symbols of a text, stored as far as the list reaches and counted to the end, or the place where parsing stops.
+/// The number of symbols of a text, or the place where parsing stops. The list gets as many of the
+/// symbols as it has room for.
 fn parse(text: &[u32], list: &mut [u8; MOST]) -> Result<usize, usize> {
     let mut set = Set::None;
     let mut held = None;
@@ -171,9 +175,13 @@ fn parse(text: &[u32], list: &mut [u8; MOST]) -> Result<usize, usize> {
     }
 }
 
-/// The check: the START weighs 1, and the number at place i weighs i.
+/// The check: the START has weight 1, and the number at place i has weight i.
 fn checksum(symbols: &[u8]) -> u8 {
-    let sum: u32 = symbols.iter().zip(0..).map(|(&s, i)| u32::from(s) * i.max(1)).sum();
+    let sum: u32 = symbols
+        .iter()
+        .zip(0..)
+        .map(|(&s, i)| u32::from(s) * i.max(1))
+        .sum();
     (sum % 103) as u8
 }
 
@@ -182,7 +190,7 @@ fn pattern(symbol: u8) -> &'static [u8] {
     &CHARS[11 * usize::from(symbol)..][..11]
 }
 
-/// The row of a symbol list, where there is room: the payload, the check, the stop.
+/// Writes the row of a symbol list, if there is room: the symbols, the check, the stop.
 fn write_row(symbols: &[u8], row: &mut [u8]) -> Result<usize, Answer> {
     let payload = 11 * symbols.len();
     let row = row.get_mut(..payload + 24).ok_or((5, payload + 24))?;
@@ -196,7 +204,7 @@ fn write_row(symbols: &[u8], row: &mut [u8]) -> Result<usize, Answer> {
     Ok(symbols.len())
 }
 
-/// The tests that draw, spell and scan begin with: 10, 13.
+/// The first tests of draw, spell and scan: 10, 13.
 fn vet(symbols: &[u8]) -> Result<(), Answer> {
     let (&start, rest) = symbols.split_first().ok_or((10, 0))?;
     if symbols.len() > MOST {
@@ -211,7 +219,7 @@ fn vet(symbols: &[u8]) -> Result<(), Answer> {
     }
 }
 
-/// The tests that read and pack begin with: 10, 11. Answers the number of symbols.
+/// The first tests of read and pack: 10, 11. Returns the number of symbols.
 fn shape(row: &[u8]) -> Result<usize, Answer> {
     let len = row.len();
     if !(35..=2829).contains(&len) || len % 11 != 24 % 11 {
@@ -223,8 +231,9 @@ fn shape(row: &[u8]) -> Result<usize, Answer> {
     }
 }
 
-/// Looks a block up pattern by pattern and cell by cell, and leaves a pattern at the first cell that differs. Of several ways to write
-/// these two loops this one is the fastest with the compiler at hand; with iterators in place of the places it takes about 1.7 times as long.
+/// Finds a block pattern by pattern and cell by cell, and leaves a pattern at the first cell that
+/// differs. Of several ways to write these two loops, this one is the fastest with Rust 1.95; with
+/// iterators instead of indices it takes about 1.7 times as long.
 fn search(block: &[u8]) -> Option<u8> {
     'search: for s in 0..106 {
         for j in 0..11 {
@@ -237,14 +246,20 @@ fn search(block: &[u8]) -> Option<u8> {
     None
 }
 
-/// Looks a block up by its word.
+/// Finds a block by its word in the table.
 fn look_up(block: &[u8]) -> Option<u8> {
-    let word = block.iter().fold(0, |word, &cell| word << 1 | usize::from(cell));
+    let word = block
+        .iter()
+        .fold(0, |word, &cell| word << 1 | usize::from(cell));
     Some(SYMBOLS[word]).filter(|&symbol| symbol != NONE)
 }
 
-/// Read's tests and passes in their order: 10, 11, 12 and 13 from the left, 15, 14, 5.
-fn try_read(row: &[u8], symbols: &mut [u8], find: impl Fn(&[u8]) -> Option<u8>) -> Result<usize, Answer> {
+/// Read, with its tests in their order: 10, 11, then 12 and 13 from the left, then 15, 14, 5.
+fn try_read(
+    row: &[u8],
+    symbols: &mut [u8],
+    find: impl Fn(&[u8]) -> Option<u8>,
+) -> Result<usize, Answer> {
     let n = shape(row)?;
     let mut list = [0; MOST + 1];
     let (blocks, stop) = row.split_at(11 * (n + 1));
@@ -255,18 +270,25 @@ fn try_read(row: &[u8], symbols: &mut [u8], find: impl Fn(&[u8]) -> Option<u8>) 
         }
         *place = symbol;
     }
-    if let Some(at) = stop.iter().zip(&STOP).position(|(cell, wanted)| cell != wanted) {
+    if let Some(at) = stop
+        .iter()
+        .zip(&STOP)
+        .position(|(cell, wanted)| cell != wanted)
+    {
         return Err((15, blocks.len() + at));
     }
     let right = checksum(&list[..n]);
     if list[n] != right {
         return Err((14, usize::from(right)));
     }
-    symbols.get_mut(..n).ok_or((5, n))?.copy_from_slice(&list[..n]);
+    symbols
+        .get_mut(..n)
+        .ok_or((5, n))?
+        .copy_from_slice(&list[..n]);
     Ok(n)
 }
 
-/// The code points of a number: its own letter, or else what a scanner sends for it.
+/// The code points of a number: its own letter, otherwise what a scanner sends for it.
 fn letters(set: Set, number: u8) -> Said {
     let letter = match (set, number) {
         (Set::B, 95) => 0xF7,
@@ -283,7 +305,8 @@ fn letters(set: Set, number: u8) -> Said {
     Said::One(letter)
 }
 
-/// The bytes that a scanner sends for a number: none for a START, a switch, Shift or a function symbol.
+/// The bytes that a scanner sends for a number: nothing for a START, a switch, Shift or a function
+/// symbol.
 fn sent(set: Set, number: u8) -> Said {
     let c = u32::from(number);
     match (set, number) {
@@ -294,7 +317,8 @@ fn sent(set: Set, number: u8) -> Said {
     }
 }
 
-/// Goes over a symbol list with the set at each place, and hands on what each number gives.
+/// Goes over a symbol list, keeps the current set, and calls `hear` with what `say` gives for each
+/// number.
 fn walk(symbols: &[u8], say: impl Fn(Set, u8) -> Said, mut hear: impl FnMut(Said)) {
     let mut set = Set::None;
     for &number in symbols {
@@ -303,8 +327,14 @@ fn walk(symbols: &[u8], say: impl Fn(Set, u8) -> Said, mut hear: impl FnMut(Said
     }
 }
 
-/// Spell and scan: the tests 10, 13, 5, with the elements counted in a pass of its own, and then the writing.
-fn tell<T>(symbols: &[u8], out: &mut [T], say: impl Fn(Set, u8) -> Said, own: impl Fn(u32) -> T) -> Result<usize, Answer> {
+/// Spell and scan: the tests 10, 13 and 5, for which a first pass counts the elements, and then the
+/// pass that writes.
+fn try_say<T>(
+    symbols: &[u8],
+    out: &mut [T],
+    say: impl Fn(Set, u8) -> Said,
+    own: impl Fn(u32) -> T,
+) -> Result<usize, Answer> {
     vet(symbols)?;
     let mut needed = 0;
     walk(symbols, &say, |said| {
@@ -331,12 +361,16 @@ fn tell<T>(symbols: &[u8], out: &mut [T], say: impl Fn(Set, u8) -> Said, own: im
     Ok(needed)
 }
 
-/// The byte of at most eight cells, the first in the top bit.
+/// The byte of at most eight cells, the first cell in the top bit.
 fn byte(cells: &[u8]) -> u8 {
-    cells.iter().zip((0..8).rev()).fold(0, |byte, (&cell, bit)| byte | cell << bit)
+    cells
+        .iter()
+        .zip((0..8).rev())
+        .fold(0, |byte, (&cell, bit)| byte | cell << bit)
 }
 
-/// Pack's tests and passes in their order: 10, 11, 5; the full bytes, and the last where cells are left for it.
+/// Pack, with its tests in their order: 10, 11, 5. Writes the full bytes, and then the last byte if
+/// cells are left for it.
 fn try_pack(row: &[u8], record: &mut [u8]) -> Result<usize, Answer> {
     let n = shape(row)?;
     let needed = 2 + row.len().div_ceil(8);
@@ -354,7 +388,7 @@ fn try_pack(row: &[u8], record: &mut [u8]) -> Result<usize, Answer> {
     Ok(needed)
 }
 
-/// The tests of a record: 20, 21, 22, 23. Answers the number of its cells.
+/// The tests of a record: 20, 21, 22, 23. Returns the number of its cells.
 fn test(record: &[u8]) -> Result<usize, Answer> {
     let [version, count, ..] = *record else {
         return Err((20, record.len()));
@@ -377,14 +411,15 @@ fn test(record: &[u8]) -> Result<usize, Answer> {
     Ok(cells)
 }
 
-/// Writes the cells of a byte, the first from its top bit, as many as the part holds.
+/// Writes the cells of a byte, from its top bit on, as many as the part has room for.
 fn spread(part: &mut [u8], byte: u8) {
     for (cell, bit) in part.iter_mut().zip((0..8).rev()) {
         *cell = byte >> bit & 1;
     }
 }
 
-/// Unpack's tests and passes in their order: 20, 21, 22, 23, 5; the full bytes, and what is left of the last.
+/// Unpack, with its tests in their order: 20, 21, 22, 23, 5. Writes the cells of the full bytes,
+/// and then those of the last byte.
 fn try_unpack(record: &[u8], row: &mut [u8]) -> Result<usize, Answer> {
     let n = test(record)?;
     let row = row.get_mut(..n).ok_or((5, n))?;

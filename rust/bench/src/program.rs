@@ -1,4 +1,4 @@
-//! The label program beside the same filter over the crate: time and memory.
+//! The label program against the same filter with the crate: time and memory.
 use crate::report::Table;
 use bench::inputs::{label, list, Kind, Numbers};
 use std::fs::{self, File};
@@ -8,16 +8,22 @@ use std::process::{Child, Command, Stdio};
 use std::time::{Duration, Instant};
 use std::{env, thread};
 
-/// The sizes of the labels, each with the number of rounds and with what the program may take of the filter's time, where something is asked.
-const SIZES: [(usize, usize, Option<f64>); 4] = [(2, 15, None), (14, 15, Some(0.15)), (50, 7, None), (255, 5, None)];
+/// The sizes of the labels. Each has its number of rounds and, for one size, the target for the
+/// program's time, as a part of the filter's time.
+const SIZES: [(usize, usize, Option<f64>); 4] = [
+    (2, 15, None),
+    (14, 15, Some(0.15)),
+    (50, 7, None),
+    (255, 5, None),
+];
 
-/// The lines of a file.
+/// The number of lines in a file.
 const LINES: usize = 100_000;
 
-/// A program that waits for input is asleep at so many looks one after the other.
+/// A program waits for input if it is asleep at this many looks in a row.
 const LOOKS: usize = 5;
 
-/// It is given up after so many looks.
+/// The most looks at a program.
 const PATIENCE: usize = 500;
 
 /// The two programs.
@@ -26,11 +32,11 @@ struct Programs {
     filter: PathBuf,
 }
 
-/// A folder for the files, which goes with this value.
+/// A folder for the files; it is removed when this value is dropped.
 struct Folder(PathBuf);
 
 impl Folder {
-    /// Makes an empty folder of this process.
+    /// Makes an empty folder for this process.
     fn new() -> io::Result<Folder> {
         let path = env::temp_dir().join(format!("slatmonief-bench-{}", std::process::id()));
         fs::create_dir_all(&path)?;
@@ -49,34 +55,53 @@ impl Drop for Folder {
     }
 }
 
-/// Finds the label program, by the variable SLATMONIEF_LABEL or where the build puts it.
+/// Finds the label program: by the variable SLATMONIEF_LABEL, or where bin/build puts it.
 fn find_label() -> io::Result<PathBuf> {
     let built = || Path::new(env!("CARGO_MANIFEST_DIR")).join("../../target/bin/label");
     let path = env::var_os("SLATMONIEF_LABEL").map_or_else(built, PathBuf::from);
     match path.is_file() {
         true => Ok(path),
-        false => Err(io::Error::other("the label program is not there: build it with bin/build, or name it in SLATMONIEF_LABEL")),
+        false => Err(io::Error::other(
+            "there is no label program: build it with bin/build, or name it in SLATMONIEF_LABEL",
+        )),
     }
 }
 
-/// Finds the filter beside this program. `cargo run` builds this program alone, so that the filter is built here.
+/// Finds the filter in the folder of this program. `cargo run` builds only this program, so the
+/// filter is built here.
 fn find_filter() -> io::Result<PathBuf> {
     let path = env::current_exe()?.with_file_name("filter");
     if let (Some(cargo), Some(target)) = (env::var_os("CARGO"), path.ancestors().nth(2)) {
         let mut build = Command::new(cargo);
-        build.args(["build", "--quiet", "--offline", "--release", "--package", "bench", "--bin", "filter", "--target-dir"]).arg(target);
+        build
+            .args([
+                "build",
+                "--quiet",
+                "--offline",
+                "--release",
+                "--package",
+                "bench",
+                "--bin",
+                "filter",
+                "--target-dir",
+            ])
+            .arg(target);
         let status = build.current_dir(env!("CARGO_MANIFEST_DIR")).status()?;
         if !status.success() {
-            return Err(io::Error::other(format!("the filter cannot be built: cargo build --bin filter: {status}")));
+            return Err(io::Error::other(format!(
+                "the filter cannot be built: cargo build --bin filter: {status}"
+            )));
         }
     }
     match path.is_file() {
         true => Ok(path),
-        false => Err(io::Error::other("the filter is not there: cargo build --release -p bench --bins")),
+        false => Err(io::Error::other(
+            "the filter is not there: cargo build --release -p bench --bins",
+        )),
     }
 }
 
-/// Writes one label as a line: its code points in upper-case hex, one space between.
+/// Writes one label as a line: its code points in upper-case hex, with one space between two.
 fn write_line(out: &mut impl Write, points: &[u32]) -> io::Result<()> {
     for (i, point) in points.iter().enumerate() {
         write!(out, "{}{point:X}", if i == 0 { "" } else { " " })?;
@@ -84,7 +109,7 @@ fn write_line(out: &mut impl Write, points: &[u32]) -> io::Result<()> {
     out.write_all(b"\n")
 }
 
-/// Writes so many lines of n symbols each, of sets A, B and C in turn.
+/// Writes `lines` labels of n symbols each, of sets A, B and C in turn.
 fn write_lines(out: &mut impl Write, n: usize, lines: usize) -> io::Result<()> {
     let mut random = Numbers::new(n as u64);
     for i in 0..lines {
@@ -94,10 +119,12 @@ fn write_lines(out: &mut impl Write, n: usize, lines: usize) -> io::Result<()> {
     Ok(())
 }
 
-/// Seconds that a program takes from one file to another or to nothing.
+/// The seconds that a program takes from one file to another, or to /dev/null.
 fn seconds(program: &Path, input: &Path, output: Option<&Path>) -> io::Result<f64> {
     let stdin = File::open(input)?;
-    let stdout = output.map_or(Ok(Stdio::null()), |path| File::create(path).map(Stdio::from))?;
+    let stdout = output.map_or(Ok(Stdio::null()), |path| {
+        File::create(path).map(Stdio::from)
+    })?;
     let start = Instant::now();
     let status = Command::new(program).stdin(stdin).stdout(stdout).status()?;
     let time = start.elapsed().as_secs_f64();
@@ -108,8 +135,14 @@ fn seconds(program: &Path, input: &Path, output: Option<&Path>) -> io::Result<f6
 /// Asserts that two files are equal byte for byte.
 fn assert_equal(a: &Path, b: &Path) -> io::Result<()> {
     let length = fs::metadata(a)?.len();
-    assert!(length > 0 && length == fs::metadata(b)?.len(), "the outputs differ in length");
-    let (mut a, mut b) = (BufReader::new(File::open(a)?), BufReader::new(File::open(b)?));
+    assert!(
+        length > 0 && length == fs::metadata(b)?.len(),
+        "the outputs differ in length"
+    );
+    let (mut a, mut b) = (
+        BufReader::new(File::open(a)?),
+        BufReader::new(File::open(b)?),
+    );
     let (mut x, mut y) = (vec![0; 1 << 20], vec![0; 1 << 20]);
     let mut left = length as usize;
     while left > 0 {
@@ -122,8 +155,13 @@ fn assert_equal(a: &Path, b: &Path) -> io::Result<()> {
     Ok(())
 }
 
-/// The seconds of both programs, run so many times in turn.
-fn in_turn(programs: &Programs, runs: usize, input: &Path, outputs: Option<(&Path, &Path)>) -> io::Result<(Vec<f64>, Vec<f64>)> {
+/// The seconds of both programs, each run `runs` times, in turn.
+fn in_turn(
+    programs: &Programs,
+    runs: usize,
+    input: &Path,
+    outputs: Option<(&Path, &Path)>,
+) -> io::Result<(Vec<f64>, Vec<f64>)> {
     let (mut ours, mut other) = (Vec::new(), Vec::new());
     for _ in 0..runs {
         ours.push(seconds(&programs.label, input, outputs.map(|o| o.0))?);
@@ -132,12 +170,25 @@ fn in_turn(programs: &Programs, runs: usize, input: &Path, outputs: Option<(&Pat
     Ok((ours, other))
 }
 
-/// Times the label program beside the filter, to nothing and to a file; the files are compared.
+/// Times the label program against the filter, to /dev/null and to a file; the two files must be
+/// equal.
 pub fn time() -> io::Result<Vec<Table>> {
-    let programs = Programs { label: find_label()?, filter: find_filter()? };
+    let programs = Programs {
+        label: find_label()?,
+        filter: find_filter()?,
+    };
     let folder = Folder::new()?;
-    let (input, ours, other) = (folder.file("lines"), folder.file("ours"), folder.file("other"));
-    let mut table = Table::new("The label program beside the same filter over the crate, 100,000 lines", "output | n | rounds", "s", "filter");
+    let (input, ours, other) = (
+        folder.file("lines"),
+        folder.file("ours"),
+        folder.file("other"),
+    );
+    let mut table = Table::new(
+        "The label program beside the same filter over the crate, 100,000 lines",
+        "output | n | rounds",
+        "s",
+        "filter",
+    );
     for (n, runs, target) in SIZES {
         let mut lines = BufWriter::new(File::create(&input)?);
         write_lines(&mut lines, n, LINES)?;
@@ -151,23 +202,32 @@ pub fn time() -> io::Result<Vec<Table>> {
     Ok(vec![table])
 }
 
-/// A line of what the system says about a process.
+/// The value of a name in what the system says about a process.
 fn status(process: u32, name: &str) -> io::Result<String> {
     let path = format!("/proc/{process}/status");
-    let status = fs::read_to_string(&path).map_err(|error| io::Error::other(format!("{path}: {error}")))?;
+    let status =
+        fs::read_to_string(&path).map_err(|error| io::Error::other(format!("{path}: {error}")))?;
     let line = status.lines().find_map(|line| line.strip_prefix(name));
-    line.map(|line| line.trim().to_string()).ok_or_else(|| io::Error::other(format!("{path} has no {name}")))
+    line.map(|line| line.trim().to_string())
+        .ok_or_else(|| io::Error::other(format!("{path} has no {name}")))
 }
 
-/// Waits until a program waits for more input; one that has ended, or that does not come to rest, is an error.
+/// Waits until a program waits for more input. It is an error if the program ends or does not come
+/// to rest.
 fn settle(run: &mut Child) -> io::Result<()> {
     let mut asleep = 0;
     for _ in 0..PATIENCE {
         thread::sleep(Duration::from_millis(20));
         if let Some(status) = run.try_wait()? {
-            return Err(io::Error::other(format!("a program ends before its input does: {status}")));
+            return Err(io::Error::other(format!(
+                "a program ends before its input does: {status}"
+            )));
         }
-        asleep = if status(run.id(), "State:")?.starts_with('S') { asleep + 1 } else { 0 };
+        asleep = if status(run.id(), "State:")?.starts_with('S') {
+            asleep + 1
+        } else {
+            0
+        };
         if asleep == LOOKS {
             return Ok(());
         }
@@ -175,15 +235,21 @@ fn settle(run: &mut Child) -> io::Result<()> {
     Err(io::Error::other("a program does not come to rest"))
 }
 
-/// The number of KB that a line of the system says.
+/// The number in a value of the system that is given in KB.
 fn kilobytes(line: &str) -> io::Result<usize> {
-    let number = line.strip_suffix(" kB").and_then(|number| number.parse().ok());
+    let number = line
+        .strip_suffix(" kB")
+        .and_then(|number| number.parse().ok());
     number.ok_or_else(|| io::Error::other(format!("no number of KB: {line}")))
 }
 
-/// The most memory in KB that a program has held once it has read all of the input and waits for more.
+/// The most memory, in KB, that a program has held until it has read the text `times` times and
+/// waits for more.
 fn peak(program: &Path, text: &[u8], times: usize) -> io::Result<usize> {
-    let mut run = Command::new(program).stdin(Stdio::piped()).stdout(Stdio::null()).spawn()?;
+    let mut run = Command::new(program)
+        .stdin(Stdio::piped())
+        .stdout(Stdio::null())
+        .spawn()?;
     let mut stdin = run.stdin.take().expect("a pipe was asked for");
     for _ in 0..times {
         stdin.write_all(text)?;
@@ -198,17 +264,27 @@ fn peak(program: &Path, text: &[u8], times: usize) -> io::Result<usize> {
     most
 }
 
-/// Prints the most memory of both programs at ten and at a million lines of n = 14.
+/// Prints the most memory of both programs for ten and for a million lines of n = 14.
 pub fn memory() -> io::Result<()> {
-    let programs = Programs { label: find_label()?, filter: find_filter()? };
+    let programs = Programs {
+        label: find_label()?,
+        filter: find_filter()?,
+    };
     let (mut ten, mut thousand) = (Vec::new(), Vec::new());
     write_lines(&mut ten, 14, 10)?;
     write_lines(&mut thousand, 14, 1000)?;
     println!("\n### The most memory, KB, n = 14, one run each\n");
     println!("| program | ten lines | a million lines |");
     println!("|---|---:|---:|");
-    for (name, program) in [("label", &programs.label), ("filter over the crate", &programs.filter)] {
-        println!("| {name} | {} | {} |", peak(program, &ten, 1)?, peak(program, &thousand, 1000)?);
+    for (name, program) in [
+        ("label", &programs.label),
+        ("filter over the crate", &programs.filter),
+    ] {
+        println!(
+            "| {name} | {} | {} |",
+            peak(program, &ten, 1)?,
+            peak(program, &thousand, 1000)?
+        );
     }
     Ok(())
 }

@@ -1,11 +1,12 @@
-//! The plain jobs are the same jobs: answer, second number and buffer, on random and on damaged inputs and at every kind of room.
+//! The plain jobs and the library's give the same answers, second numbers and buffers: on random
+//! and on damaged inputs, and with short and long buffers.
 use bench::filter;
 use bench::inputs::{label, list, Kind, Label, Numbers};
 use bench::plain::{self, Answer};
 use slatmonief::Refusal;
 use std::fmt::Debug;
 
-/// A job of the library's face, from a slice of `I` to a slice of `O`.
+/// A job of the library, from a slice of `I` to a slice of `O`.
 type Job<I, O> = fn(&[I], &mut [O]) -> Result<usize, Refusal>;
 
 /// The same job in plain Rust.
@@ -14,39 +15,63 @@ type Plain<I, O> = fn(&[I], &mut [O]) -> Answer;
 /// The kinds of label.
 const KINDS: [Kind; 4] = [Kind::A, Kind::B, Kind::C, Kind::Mixed];
 
-/// The two numbers of the face's answer.
-fn told(result: Result<usize, Refusal>) -> Answer {
+/// The two numbers of an answer of the library.
+fn numbers(result: Result<usize, Refusal>) -> Answer {
     result.map_or_else(|refusal| (refusal.number(), refusal.second()), |n| (0, n))
 }
 
-/// Holds a plain job against the library's at the rooms around the one that is needed; answers the answer in ample room.
-fn same<I, O: Copy + Default + PartialEq + Debug>(input: &[I], blank: O, job: Job<I, O>, plain: Plain<I, O>) -> Answer {
-    let ample = told(job(input, &mut [O::default(); 3000]));
-    let needed = told(job(input, &mut []));
+/// Compares a plain job with the library's, with buffer lengths close to the one that is needed;
+/// returns the answer with a long buffer.
+fn same<I, O: Copy + Default + PartialEq + Debug>(
+    input: &[I],
+    blank: O,
+    job: Job<I, O>,
+    plain: Plain<I, O>,
+) -> Answer {
+    let ample = numbers(job(input, &mut [O::default(); 3000]));
+    let needed = numbers(job(input, &mut []));
     let needed = if needed.0 == 5 { needed.1 } else { 0 };
     for room in [0, 1, needed.saturating_sub(1), needed, needed + 3, 3000] {
         let (mut ours, mut theirs) = (vec![blank; room], vec![blank; room]);
-        assert_eq!(told(job(input, &mut ours)), plain(input, &mut theirs));
+        assert_eq!(numbers(job(input, &mut ours)), plain(input, &mut theirs));
         assert_eq!(ours, theirs);
     }
     ample
 }
 
-/// Every job on one label.
+/// Compares every job on one label.
 fn same_label(l: &Label) {
     let n = l.symbols.len();
-    assert_eq!(same(&l.points, 9, slatmonief::encode, plain::encode), (0, n));
+    assert_eq!(
+        same(&l.points, 9, slatmonief::encode, plain::encode),
+        (0, n)
+    );
     assert_eq!(same(&l.symbols, 9, slatmonief::draw, plain::draw), (0, n));
     assert_eq!(same(&l.row, 9, slatmonief::read, plain::read), (0, n));
     assert_eq!(same(&l.row, 9, slatmonief::read, plain::table_read), (0, n));
-    assert_eq!(same(&l.symbols, 9, slatmonief::spell, plain::spell), (0, l.points.len()));
+    assert_eq!(
+        same(&l.symbols, 9, slatmonief::spell, plain::spell),
+        (0, l.points.len())
+    );
     assert_eq!(same(&l.symbols, 9, slatmonief::scan, plain::scan).0, 0);
-    assert_eq!(same(&l.row, 9, slatmonief::pack, plain::pack), (0, l.record.len()));
-    assert_eq!(same(&l.record, 9, slatmonief::unpack, plain::unpack), (0, l.row.len()));
-    assert_eq!(barcoders::sym::code128::Code128::new(&l.text).unwrap().encode(), l.row);
+    assert_eq!(
+        same(&l.row, 9, slatmonief::pack, plain::pack),
+        (0, l.record.len())
+    );
+    assert_eq!(
+        same(&l.record, 9, slatmonief::unpack, plain::unpack),
+        (0, l.row.len())
+    );
+    assert_eq!(
+        barcoders::sym::code128::Code128::new(&l.text)
+            .unwrap()
+            .encode(),
+        l.row
+    );
 }
 
-/// A slice with one element replaced, left out or put in, or cut short, or lengthened far.
+/// A copy of a slice with one element replaced, left out or put in, or cut short, or made much
+/// longer.
 fn damaged<T: Copy>(random: &mut Numbers, good: &[T], other: impl Fn(&mut Numbers) -> T) -> Vec<T> {
     let mut bad = good.to_vec();
     let at = random.below(bad.len());
@@ -60,17 +85,37 @@ fn damaged<T: Copy>(random: &mut Numbers, good: &[T], other: impl Fn(&mut Number
     bad
 }
 
-/// Code points of all sorts: letters of the sets, other letters, no scalar values.
+/// A code point of any kind: a letter of the sets, another letter, or a value that is not a scalar
+/// value.
 fn point(random: &mut Numbers) -> u32 {
-    const ODD: [u32; 18] =
-        [0xC0, 0x181, 0x106, 0x179, 0x17A, 0x17B, 0x17C, 0x17D, 0xF7, 0x7F, 0x80, 0xD7FF, 0xD800, 0xDFFF, 0xE000, 0x10FFFF, 0x110000, u32::MAX];
+    const ODD: [u32; 18] = [
+        0xC0,
+        0x181,
+        0x106,
+        0x179,
+        0x17A,
+        0x17B,
+        0x17C,
+        0x17D,
+        0xF7,
+        0x7F,
+        0x80,
+        0xD7FF,
+        0xD800,
+        0xDFFF,
+        0xE000,
+        0x10FFFF,
+        0x110000,
+        u32::MAX,
+    ];
     match random.below(3) {
         0 => ODD[random.below(ODD.len())],
         _ => random.below(0x90) as u32,
     }
 }
 
-/// A row with some blocks replaced by patterns, so that numbers stand where they may not and checks are wrong.
+/// A row with one block replaced by any pattern, so that a number is not allowed at its place or
+/// the check is wrong.
 fn shuffled(random: &mut Numbers, row: &[u8]) -> Vec<u8> {
     let mut row = row.to_vec();
     let to = random.below((row.len() - 13) / 11);
@@ -104,7 +149,12 @@ fn on_damaged_texts_and_lists() {
     }
     same(&[], 9, slatmonief::encode, plain::encode);
     same(&[0x41], 9, slatmonief::encode, plain::encode);
-    assert!([0, 1, 2, 3, 4, 10, 13].iter().all(|&number| seen[number] > 0), "{seen:?}");
+    assert!(
+        [0, 1, 2, 3, 4, 10, 13]
+            .iter()
+            .all(|&number| seen[number] > 0),
+        "{seen:?}"
+    );
 }
 
 #[test]
@@ -114,7 +164,10 @@ fn on_damaged_rows_and_records() {
     for round in 0..600 {
         let n = 1 + random.below(if round % 8 == 0 { 255 } else { 20 });
         let l = label(list(&mut random, KINDS[round % 4], n));
-        for row in [damaged(&mut random, &l.row, |random| random.byte(3)), shuffled(&mut random, &l.row)] {
+        for row in [
+            damaged(&mut random, &l.row, |random| random.byte(3)),
+            shuffled(&mut random, &l.row),
+        ] {
             seen[same(&row, 9, slatmonief::read, plain::read).0 as usize] += 1;
             same(&row, 9, slatmonief::read, plain::table_read);
             same(&row, 9, slatmonief::pack, plain::pack);
@@ -132,7 +185,12 @@ fn on_damaged_rows_and_records() {
         seen[same(&row, 9, slatmonief::read, plain::read).0 as usize] += 1;
         same(&row, 9, slatmonief::read, plain::table_read);
     }
-    assert!([0, 10, 11, 12, 13, 14, 15, 20, 21, 22, 23].iter().all(|&number| seen[number] > 0), "{seen:?}");
+    assert!(
+        [0, 10, 11, 12, 13, 14, 15, 20, 21, 22, 23]
+            .iter()
+            .all(|&number| seen[number] > 0),
+        "{seen:?}"
+    );
 }
 
 #[test]
@@ -142,7 +200,14 @@ fn the_filter_answers_as_the_label_program() {
     filter::run(lines.as_bytes(), &mut out).unwrap();
     let lone = "0 1 11010000100110110011001100011101011\n";
     let pair = "0 2 1101001110010110011100100110011101100011101011\n";
-    let wanted = [lone, pair, "2 0\n3 ?\n1 0\n?\n?\n?\n?\n?\n?\n", lone, "2 0\n"].concat();
+    let wanted = [
+        lone,
+        pair,
+        "2 0\n3 ?\n1 0\n?\n?\n?\n?\n?\n?\n",
+        lone,
+        "2 0\n",
+    ]
+    .concat();
     assert_eq!(String::from_utf8(out).unwrap(), wanted);
     let long = format!("181{}\n181{}", " 41".repeat(255), " 41".repeat(1365));
     let mut out = Vec::new();

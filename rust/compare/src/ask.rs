@@ -1,22 +1,23 @@
-//! What the crate answers, and the place of refusal 3 found from the crate alone.
-use crate::model::cells;
+//! Asks the crate: its answers, its patterns, and the place of refusal 3, found from its answers
+//! alone.
+use crate::model::{cells, FNC1, SWITCH};
 use barcoders::error::Error;
 use barcoders::sym::code128::Code128;
 
 /// The crate's answer to a list of code points.
 #[derive(Clone, Debug, PartialEq, Eq)]
 pub enum Crate {
-    /// The value at this place is no scalar value: there is no text to ask with.
+    /// The value at this place is not a scalar value, so there is no text to ask with.
     NoText(usize),
     /// `Error::Length`.
     Length,
     /// `Error::Character`.
     Character,
-    /// The row; only its length is right where the text has more than 6,000 code points.
+    /// The row. For a text of more than 6,000 code points only its length is right.
     Row(Vec<u8>),
 }
 
-/// The text of these code points, or the place of the first that is no scalar value.
+/// The text of these code points, or the place of the first one that is not a scalar value.
 pub fn text_of(points: &[u32]) -> Result<String, usize> {
     let mut text = String::with_capacity(4 * points.len() + 4);
     for (place, &point) in points.iter().enumerate() {
@@ -25,10 +26,11 @@ pub fn text_of(points: &[u32]) -> Result<String, usize> {
     Ok(text)
 }
 
-/// Up to so many code points the crate can draw: far above, its sum of the check no longer fits an `i32`.
+/// The most code points of a text that the crate is asked to draw. For more than about 6,400
+/// symbols, its sum for the check does not fit in an `i32`.
 pub const MOST_DRAWN: usize = 6000;
 
-/// The symbols of a text that the crate accepts, counted in what it shows of itself.
+/// The number of symbols of a text that the crate accepts, counted in its debug output.
 fn symbols(code: &Code128) -> usize {
     format!("{code:?}").matches("Unit {").count()
 }
@@ -48,7 +50,7 @@ pub fn ask(points: &[u32]) -> Crate {
     }
 }
 
-/// The crate's row of a text that it accepts.
+/// The crate's row, if it accepts the text.
 pub fn row(points: &[u32]) -> Option<Vec<u8>> {
     match ask(points) {
         Crate::Row(row) => Some(row),
@@ -56,26 +58,52 @@ pub fn row(points: &[u32]) -> Option<Vec<u8>> {
     }
 }
 
-/// Whether the crate accepts; it draws no row.
+/// The code points of the numbers 96 to 102 in set B.
+const FUNCTIONS_B: [u32; 7] = [0x17B, 0x17A, 0x17D, SWITCH[2], 0x17C, SWITCH[0], FNC1];
+
+/// A text whose row has this number, and the block of the row where it is.
+fn text_with(number: usize) -> (Vec<u32>, usize) {
+    match number {
+        0..=94 => (vec![SWITCH[1], 0x20 + number as u32], 1),
+        95 => (vec![SWITCH[1], 0xF7], 1),
+        96..=102 => (vec![SWITCH[1], FUNCTIONS_B[number - 96]], 1),
+        _ => (vec![SWITCH[number - 103]], 0),
+    }
+}
+
+/// The 106 patterns in the order of their numbers, cut out of the crate's rows.
+pub fn patterns() -> [[u8; 11]; 106] {
+    std::array::from_fn(|number| {
+        let (text, block) = text_with(number);
+        let row = row(&text).expect("the crate accepts the texts that show the patterns");
+        row[11 * block..11 * block + 11]
+            .try_into()
+            .expect("eleven cells")
+    })
+}
+
+/// Whether the crate accepts a text; no row is drawn.
 fn accepts(text: &str) -> bool {
     Code128::new(text).is_ok()
 }
 
-/// What is tried behind a short beginning, one and two at a time.
-const BEHIND: [char; 10] = ['0', '9', 'A', 'a', ' ', '\u{1F}', 'À', 'Ɓ', 'Ć', 'Ź'];
+/// The code points that are tried after a short beginning, one and two at a time.
+const ENDINGS: [char; 10] = ['0', '9', 'A', 'a', ' ', '\u{1F}', 'À', 'Ɓ', 'Ć', 'Ź'];
 
-/// How much is tried behind a beginning that the crate refuses.
+/// What is tried after a beginning that the crate refuses.
 #[derive(Clone, Copy, PartialEq, Eq)]
 pub enum Tries {
     /// A digit.
     Digit,
-    /// A digit, and then everything of up to two code points of a small set.
+    /// A digit, and then every text of one or two code points of a small set.
     Many,
 }
 
-/// Whether a beginning, not empty and of scalar values, is or can be continued to something that the crate accepts.
+/// Whether the crate accepts a beginning, alone or continued. The beginning is not empty.
 pub fn continues(points: &[u32], tries: Tries) -> bool {
-    let Ok(mut text) = text_of(points) else { return false };
+    let Ok(mut text) = text_of(points) else {
+        return false;
+    };
     if accepts(&text) {
         return true;
     }
@@ -84,14 +112,15 @@ pub fn continues(points: &[u32], tries: Tries) -> bool {
         return true;
     }
     text.pop();
-    tries == Tries::Many && BEHIND.iter().any(|&one| continued_by(&mut text, one))
+    tries == Tries::Many && ENDINGS.iter().any(|&one| continued_by(&mut text, one))
 }
 
-/// Whether this code point, alone or with one more of the set, continues the text to something accepted.
+/// Whether the crate accepts the text with this code point after it, alone or with one more of the
+/// small set.
 fn continued_by(text: &mut String, one: char) -> bool {
     text.push(one);
     let mut found = accepts(text);
-    for &two in &BEHIND {
+    for &two in &ENDINGS {
         text.push(two);
         found |= accepts(text);
         text.pop();
@@ -100,15 +129,17 @@ fn continued_by(text: &mut String, one: char) -> bool {
     found
 }
 
-/// The first place at which the beginning up to and with it can no longer be continued: looked for from the left.
+/// The first place where the beginning up to and including it cannot be continued, searched from
+/// the left.
 pub fn place_from_left(points: &[u32], tries: Tries) -> Option<usize> {
     (0..points.len()).find(|&place| !continues(&points[..=place], tries))
 }
 
-/// Up to this length a text's place is looked for from the left, with many continuations.
+/// Up to this length, the place in a text is searched from the left, with many continuations.
 const FROM_LEFT_UP_TO: usize = 6;
 
-/// The place of refusal 3 of a text that the crate refuses by `Character`; the length where every beginning can be continued.
+/// The place of refusal 3 in a text that the crate refuses by `Character`. If every beginning can
+/// be continued, it is the length of the text.
 pub fn place(points: &[u32]) -> usize {
     if points.len() <= FROM_LEFT_UP_TO {
         return place_from_left(points, Tries::Many).unwrap_or(points.len());
@@ -116,7 +147,7 @@ pub fn place(points: &[u32]) -> usize {
     place_by_halving(points)
 }
 
-/// The same by halving; being continuable is closed under beginnings. The length where every beginning can be continued.
+/// The same place, searched by halving: if a beginning can be continued, so can every shorter one.
 pub fn place_by_halving(points: &[u32]) -> usize {
     let (mut low, mut high) = (0, points.len());
     while low < high {

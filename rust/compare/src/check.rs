@@ -1,4 +1,4 @@
-//! One call compared with what it must say, counted, and kept in full where it differs.
+//! Compares one call with what it must answer, counts it, and keeps it in full if it differs.
 use crate::ask::{self, Crate, MOST_DRAWN};
 use crate::face::{Answer, Face};
 use crate::listed;
@@ -6,38 +6,41 @@ use crate::model::{accept, cells, refuse, Model, Said, LIMIT};
 use slatmonief::error::Error;
 use std::fmt::Debug;
 
-/// What is compared: one of the seven jobs, one of the laws that join them, or a count over a whole part.
+/// What is compared: one of the seven jobs, one of the laws between them, or a count over a whole
+/// part.
 #[derive(Clone, Copy, Debug, PartialEq, Eq)]
 pub enum Subject {
-    /// Encode against the crate.
+    /// Encode, compared with the crate.
     Encode,
-    /// The type with the crate's signatures against the crate.
+    /// The type with the crate's signatures, compared with the crate.
     DropIn,
-    /// Draw against the model.
+    /// Draw, compared with the model.
     Draw,
-    /// Read against the model.
+    /// Read, compared with the model.
     Read,
-    /// Spell against the model.
+    /// Spell, compared with the model.
     Spell,
-    /// Scan against the model.
+    /// Scan, compared with the model.
     Scan,
-    /// Pack against the model.
+    /// Pack, compared with the model.
     Pack,
-    /// Unpack against the model.
+    /// Unpack, compared with the model.
     Unpack,
-    /// An accepted text: read its row, draw it, spell it; Ź moved ahead of its pair gives the same row.
+    /// An accepted text: its row is read, its symbols are drawn and spelled, and Ź moved ahead of
+    /// its pair gives the same row.
     TextLaw,
-    /// A list that is drawn: read the row, spell the list, encode that here and in the crate.
+    /// A symbol list that is drawn: its row is read, and its spelling is encoded by the library and
+    /// by the crate.
     ListLaw,
     /// Cells that are packed: unpack gives them back.
     RowLaw,
     /// A record that is unpacked: pack gives it back.
     RecordLaw,
-    /// A number or a set over a whole part; the input is only shown.
+    /// A count or a set over a whole part; the input is only shown.
     Count,
 }
 
-/// Every subject that can be called again, and its name on the command line.
+/// Every subject that can be compared again, and its name on the command line.
 pub const SUBJECTS: [(&str, Subject); 12] = [
     ("encode", Subject::Encode),
     ("drop-in", Subject::DropIn),
@@ -53,42 +56,42 @@ pub const SUBJECTS: [(&str, Subject); 12] = [
     ("record-law", Subject::RecordLaw),
 ];
 
-/// A difference that is on no list.
+/// A difference that is not allowed.
 #[derive(Clone, Debug)]
 pub struct Fault {
     /// What was compared.
     pub subject: Subject,
-    /// The input; bytes are widened.
+    /// The input; bytes are widened to 32 bits.
     pub input: Vec<u32>,
     /// The length of the lent buffer.
     pub room: usize,
     /// What the buffer was filled with.
     pub mark: u8,
-    /// What had to be said.
+    /// The right answer, in words.
     pub expected: String,
-    /// What was said.
+    /// The answer that was given, in words.
     pub got: String,
 }
 
-/// The answer number of a call that is as it must be (0 is accepted), or the difference.
+/// The answer number of a right answer (0 is accepted), or the difference.
 pub type Outcome = Result<u32, Box<Fault>>;
 
 /// How much was compared.
 #[derive(Clone, Debug, Default)]
 pub struct Tally {
-    /// Inputs: each text, list, row or record that was tried, however many buffers it was tried with.
+    /// Texts, lists, rows and records that were tried; each counts once, with all its buffers.
     pub inputs: u64,
     /// Calls that were accepted.
     pub accepted: u64,
-    /// Calls that were refused, by number.
+    /// Calls that were refused, by the number of the refusal.
     pub refused: [u64; 24],
-    /// Laws that were tried and held.
+    /// Laws that were tested, and held.
     pub laws: u64,
     /// Calls of the type with the crate's signatures.
     pub drop_in: u64,
     /// Accepted inputs of encode that are too long for the crate to draw.
     pub undrawn: u64,
-    /// Calls of encode that fell under a row of the list.
+    /// Calls of encode for each row of the list.
     pub listed: [u64; listed::LIST.len()],
 }
 
@@ -100,16 +103,22 @@ impl Tally {
         self.laws += other.laws;
         self.drop_in += other.drop_in;
         self.undrawn += other.undrawn;
-        self.refused.iter_mut().zip(other.refused).for_each(|(mine, theirs)| *mine += theirs);
-        self.listed.iter_mut().zip(other.listed).for_each(|(mine, theirs)| *mine += theirs);
+        self.refused
+            .iter_mut()
+            .zip(other.refused)
+            .for_each(|(mine, theirs)| *mine += theirs);
+        self.listed
+            .iter_mut()
+            .zip(other.listed)
+            .for_each(|(mine, theirs)| *mine += theirs);
     }
 
-    /// All calls.
+    /// The number of calls.
     pub fn calls(&self) -> u64 {
         self.accepted + self.refused.iter().sum::<u64>()
     }
 
-    /// Counts one call by its number.
+    /// Counts one call by its answer number.
     fn call(&mut self, number: u32) {
         match number {
             0 => self.accepted += 1,
@@ -120,7 +129,7 @@ impl Tally {
 
 /// An element of a lent buffer.
 pub trait Element: Copy + PartialEq + Debug {
-    /// The element that a mark fills a buffer with.
+    /// The element that fills a buffer with this mark.
     fn of_mark(mark: u8) -> Self;
 }
 
@@ -136,37 +145,60 @@ impl Element for u32 {
     }
 }
 
-/// Elements in front of and behind the lent part, which no call may touch.
+/// The number of elements before and after the lent part, which no call may change.
 const FENCE: usize = 16;
 
 /// Lends the middle of a marked buffer.
-fn lend<T: Element>(buffer: &mut Vec<T>, room: usize, mark: T, call: impl FnOnce(&mut [T]) -> Answer) -> Answer {
+fn lend<T: Element>(
+    buffer: &mut Vec<T>,
+    room: usize,
+    mark: T,
+    call: impl FnOnce(&mut [T]) -> Answer,
+) -> Answer {
     buffer.clear();
     buffer.resize(room + 2 * FENCE, mark);
     call(&mut buffer[FENCE..FENCE + room])
 }
 
-/// Whether the answer and every element are as they must be.
+/// Whether the answer and every element of the buffer are right.
 fn agrees<T: Element>(buffer: &[T], mark: T, answer: Answer, said: &Said<T>) -> bool {
     let end = FENCE + said.front.len();
     answer == (said.number, said.second)
         && buffer.len() >= end + FENCE
         && buffer[FENCE..end] == said.front[..]
-        && buffer[..FENCE].iter().chain(&buffer[end..]).all(|&element| element == mark)
+        && buffer[..FENCE]
+            .iter()
+            .chain(&buffer[end..])
+            .all(|&element| element == mark)
 }
 
-/// An answer in words, with every element of the buffer and of its fences where these are touched.
+/// An answer in words, with every element of the buffer if it was changed, and of the fences if
+/// they were.
 fn in_words<T: Element>(number: u32, second: usize, buffer: &[T], mark: T) -> String {
     let lent = &buffer[FENCE..buffer.len() - FENCE];
-    let fences = buffer[..FENCE].iter().chain(&buffer[buffer.len() - FENCE..]).any(|&element| element != mark);
-    let outside = if fences { format!("; around it {:?} and {:?}", &buffer[..FENCE], &buffer[buffer.len() - FENCE..]) } else { String::new() };
+    let fences = buffer[..FENCE]
+        .iter()
+        .chain(&buffer[buffer.len() - FENCE..])
+        .any(|&element| element != mark);
+    let outside = if fences {
+        format!(
+            "; around it {:?} and {:?}",
+            &buffer[..FENCE],
+            &buffer[buffer.len() - FENCE..]
+        )
+    } else {
+        String::new()
+    };
     if lent.iter().all(|&element| element == mark) {
-        return format!("{number} {second}, the {} elements of the buffer as lent{outside}", lent.len());
+        return format!(
+            "{number} {second}, the {} elements of the buffer as lent{outside}",
+            lent.len()
+        );
     }
     format!("{number} {second}, buffer {lent:?}{outside}")
 }
 
-/// The buffer that had to be.
+/// The buffer after the right answer.
 fn should_be<T: Element>(said: &Said<T>, room: usize, mark: T) -> Vec<T> {
     let mut buffer = vec![mark; room + 2 * FENCE];
     let end = (FENCE + said.front.len()).min(buffer.len());
@@ -174,24 +206,24 @@ fn should_be<T: Element>(said: &Said<T>, room: usize, mark: T) -> Vec<T> {
     buffer
 }
 
-/// Bytes widened for a fault.
+/// Bytes widened to 32 bits, as the input of a fault.
 pub fn wide(bytes: &[u8]) -> Vec<u32> {
     bytes.iter().map(|&byte| u32::from(byte)).collect()
 }
 
-/// One thread's share of the work: the face, the model, the counts and two buffers.
+/// What one thread works with: the library, the model, the counts and two buffers.
 pub struct Worker<'a> {
-    /// The face that is compared.
+    /// The library, or a wrong one.
     pub face: &'a dyn Face,
     /// The model.
     pub model: &'a Model,
-    /// What was counted.
+    /// The counts so far.
     pub tally: Tally,
     bytes: Vec<u8>,
     points: Vec<u32>,
 }
 
-macro_rules! against_model {
+macro_rules! with_model {
     ($(#[$doc:meta])* $name:ident, $subject:ident, $scratch:ident, $element:ty) => {
         $(#[$doc])*
         pub fn $name(&mut self, input: &[u8], room: usize, mark: u8) -> Outcome {
@@ -200,7 +232,8 @@ macro_rules! against_model {
             let face = self.face;
             let answer = lend(&mut self.$scratch, room, filled, |out| face.$name(input, out));
             if !agrees(&self.$scratch, filled, answer, &said) {
-                return Err(fault(Subject::$subject, wide(input), room, mark, &said, answer, &self.$scratch));
+                let (subject, buffer) = (Subject::$subject, &self.$scratch);
+                return Err(fault(subject, wide(input), room, mark, &said, answer, buffer));
             }
             self.tally.call(answer.0);
             Ok(answer.0)
@@ -209,19 +242,46 @@ macro_rules! against_model {
 }
 
 /// A difference of one job, in full.
-fn fault<T: Element>(subject: Subject, input: Vec<u32>, room: usize, mark: u8, said: &Said<T>, answer: Answer, buffer: &[T]) -> Box<Fault> {
+fn fault<T: Element>(
+    subject: Subject,
+    input: Vec<u32>,
+    room: usize,
+    mark: u8,
+    said: &Said<T>,
+    answer: Answer,
+    buffer: &[T],
+) -> Box<Fault> {
     let filled = T::of_mark(mark);
-    let expected = in_words(said.number, said.second, &should_be(said, room, filled), filled);
+    let expected = in_words(
+        said.number,
+        said.second,
+        &should_be(said, room, filled),
+        filled,
+    );
     let got = in_words(answer.0, answer.1, buffer, filled);
-    Box::new(Fault { subject, input, room, mark, expected, got })
+    Box::new(Fault {
+        subject,
+        input,
+        room,
+        mark,
+        expected,
+        got,
+    })
 }
 
 /// A difference of a law or a count.
 pub fn broken(subject: Subject, input: Vec<u32>, expected: String, got: String) -> Box<Fault> {
-    Box::new(Fault { subject, input, room: 0, mark: 0xA7, expected, got })
+    Box::new(Fault {
+        subject,
+        input,
+        room: 0,
+        mark: 0xA7,
+        expected,
+        got,
+    })
 }
 
-/// What encode must say, from the crate's answer and the place of refusal 3.
+/// What encode must answer, from the crate's answer and the place of refusal 3.
 fn encode_said(said: &Crate, place: usize, room: usize) -> Said<u8> {
     match said {
         Crate::NoText(place) => refuse(1, *place),
@@ -238,7 +298,13 @@ fn encode_said(said: &Crate, place: usize, room: usize) -> Said<u8> {
 impl<'a> Worker<'a> {
     /// A worker with nothing counted.
     pub fn new(face: &'a dyn Face, model: &'a Model) -> Worker<'a> {
-        Worker { face, model, tally: Tally::default(), bytes: Vec::new(), points: Vec::new() }
+        Worker {
+            face,
+            model,
+            tally: Tally::default(),
+            bytes: Vec::new(),
+            points: Vec::new(),
+        }
     }
 
     /// Counts an input of encode.
@@ -247,20 +313,35 @@ impl<'a> Worker<'a> {
         self.tally.undrawn += u64::from(text.len() > MOST_DRAWN && matches!(crates, Crate::Row(_)));
     }
 
-    /// Encode against the crate.
+    /// Compares encode with the crate.
     pub fn encode(&mut self, text: &[u32], room: usize, mark: u8) -> Outcome {
         let said = ask::ask(text);
         let place = place_for(text, &said);
         self.encode_known(text, &said, place, room, mark)
     }
 
-    /// Encode against what the crate is known to answer.
-    pub fn encode_known(&mut self, text: &[u32], crates: &Crate, place: usize, room: usize, mark: u8) -> Outcome {
+    /// Compares encode with a known answer of the crate.
+    pub fn encode_known(
+        &mut self,
+        text: &[u32],
+        crates: &Crate,
+        place: usize,
+        room: usize,
+        mark: u8,
+    ) -> Outcome {
         let said = encode_said(crates, place, room);
         let face = self.face;
         let answer = lend(&mut self.bytes, room, mark, |row| face.encode(text, row));
         if !agrees(&self.bytes, mark, answer, &said) {
-            return Err(fault(Subject::Encode, text.to_vec(), room, mark, &said, answer, &self.bytes));
+            return Err(fault(
+                Subject::Encode,
+                text.to_vec(),
+                room,
+                mark,
+                &said,
+                answer,
+                &self.bytes,
+            ));
         }
         self.tally.call(answer.0);
         for row in listed::rows_of(text, crates, place, answer.0) {
@@ -269,9 +350,12 @@ impl<'a> Worker<'a> {
         Ok(answer.0)
     }
 
-    /// The type with the crate's signatures against what the crate is known to answer; more than 255 symbols must be `Error::Length`.
+    /// Compares `Code128`, the type with the crate's signatures, with a known answer of the crate.
+    /// More than 255 symbols must give `Error::Length`.
     pub fn drop_in(&mut self, text: &[u32], crates: &Crate) -> Result<(), Box<Fault>> {
-        let Ok(words) = ask::text_of(text) else { return Ok(()) };
+        let Ok(words) = ask::text_of(text) else {
+            return Ok(());
+        };
         let expected = match crates {
             Crate::Row(row) if row.len() <= cells(LIMIT) => Ok(row),
             Crate::Character => Err(Error::Character),
@@ -279,39 +363,44 @@ impl<'a> Worker<'a> {
         };
         let answer = self.face.code128(&words);
         if expected != answer.as_ref().map_err(|&error| error) {
-            return Err(broken(Subject::DropIn, text.to_vec(), format!("{expected:?}"), format!("{answer:?}")));
+            return Err(broken(
+                Subject::DropIn,
+                text.to_vec(),
+                format!("{expected:?}"),
+                format!("{answer:?}"),
+            ));
         }
         self.tally.drop_in += 1;
         Ok(())
     }
 
-    against_model! {
-        /// Draw against the model.
+    with_model! {
+        /// Compares draw with the model.
         draw, Draw, bytes, u8
     }
-    against_model! {
-        /// Read against the model.
+    with_model! {
+        /// Compares read with the model.
         read, Read, bytes, u8
     }
-    against_model! {
-        /// Spell against the model.
+    with_model! {
+        /// Compares spell with the model.
         spell, Spell, points, u32
     }
-    against_model! {
-        /// Scan against the model.
+    with_model! {
+        /// Compares scan with the model.
         scan, Scan, bytes, u8
     }
-    against_model! {
-        /// Pack against the model.
+    with_model! {
+        /// Compares pack with the model.
         pack, Pack, bytes, u8
     }
-    against_model! {
-        /// Unpack against the model.
+    with_model! {
+        /// Compares unpack with the model.
         unpack, Unpack, bytes, u8
     }
 }
 
-/// The place of refusal 3, where the crate refuses by `Character`; else 0.
+/// The place of refusal 3 if the crate refuses by `Character`, otherwise 0.
 pub fn place_for(text: &[u32], said: &Crate) -> usize {
     match said {
         Crate::Character => ask::place(text),

@@ -1,4 +1,4 @@
-//! Encode against the crate.
+//! Compares encode with the crate.
 use crate::ask::{self, Crate, Tries};
 use crate::check::{broken, place_for, Subject, Tally, Worker};
 use crate::face::Answer;
@@ -8,7 +8,8 @@ use crate::random::Random;
 use crate::run::{Result, Run};
 use std::collections::HashMap;
 
-/// All texts that begin with `root` and go on with up to `depth` of `letters`, as far as they have at least `from` code points.
+/// All texts of at least `from` code points that begin with `root` and continue with up to `depth`
+/// of `letters`.
 struct Tree<'a> {
     root: Vec<u32>,
     depth: usize,
@@ -16,10 +17,10 @@ struct Tree<'a> {
     from: usize,
 }
 
-/// Up to this length many continuations are tried behind a beginning that the crate refuses.
+/// Up to this length, many continuations are tried after a beginning that the crate refuses.
 const MANY_UP_TO: usize = 4;
 
-/// How much is tried behind this beginning.
+/// What is tried after this beginning.
 fn tries(text: &[u32]) -> Tries {
     if text.len() <= MANY_UP_TO {
         Tries::Many
@@ -28,13 +29,22 @@ fn tries(text: &[u32]) -> Tries {
     }
 }
 
-/// Whether the last code point ends every hope: the crate, which said this, refuses the beginning and all that is tried behind it.
+/// Whether the crate, with this answer, refuses the text and also everything that is tried after
+/// it.
 fn dies(text: &[u32], said: &Crate) -> bool {
-    !text.is_empty() && matches!(said, Crate::Length | Crate::Character) && !ask::continues(text, tries(text))
+    !text.is_empty()
+        && matches!(said, Crate::Length | Crate::Character)
+        && !ask::continues(text, tries(text))
 }
 
-/// Walks a tree of texts; `dead` is the first place at which the beginning can no longer be continued.
-fn walk(worker: &mut Worker, tree: &Tree, text: &mut Vec<u32>, depth: usize, dead: Option<usize>) -> Result<()> {
+/// Walks a tree of texts. `dead` is the first place where the beginning can no longer be continued.
+fn walk(
+    worker: &mut Worker,
+    tree: &Tree,
+    text: &mut Vec<u32>,
+    depth: usize,
+    dead: Option<usize>,
+) -> Result<()> {
     let said = ask::ask(text);
     let dead = dead.or_else(|| dies(text, &said).then(|| text.len() - 1));
     if text.len() >= tree.from {
@@ -51,7 +61,8 @@ fn walk(worker: &mut Worker, tree: &Tree, text: &mut Vec<u32>, depth: usize, dea
     Ok(())
 }
 
-/// One text of an exhaustive run: with exactly enough room and, where it is accepted, with one cell less too.
+/// Compares one text of the exhaustive run: with just enough room and, if it is accepted, also with
+/// one cell less.
 fn visit(worker: &mut Worker, text: &[u32], said: &Crate, dead: Option<usize>) -> Result<()> {
     let mark = [0xA7, 0x5C, 0xFF][text.len() % 3];
     worker.count_text(text, said);
@@ -60,8 +71,14 @@ fn visit(worker: &mut Worker, text: &[u32], said: &Crate, dead: Option<usize>) -
         _ => 35,
     };
     if let (Crate::Row(_), Some(place)) = (said, dead) {
-        let expected = format!("refused by the crate, as no beginning up to place {place} is continued");
-        return Err(broken(Subject::Count, text.to_vec(), expected, "accepted by the crate".into()));
+        let expected =
+            format!("refused by the crate, as no beginning up to place {place} is continued");
+        return Err(broken(
+            Subject::Count,
+            text.to_vec(),
+            expected,
+            "accepted by the crate".into(),
+        ));
     }
     worker.drop_in(text, said)?;
     if worker.encode_known(text, said, dead.unwrap_or(text.len()), need, mark)? == 0 {
@@ -70,20 +87,61 @@ fn visit(worker: &mut Worker, text: &[u32], said: &Crate, dead: Option<usize>) -
     Ok(())
 }
 
-/// Digits, Ź and a switch, for longer texts in set C.
+/// Two digits, Ź and a switch, for longer texts in set C.
 const PAIRS: [u32; 4] = [0x30, 0x37, 0x179, 0x181];
 
-/// The trees of the exhaustive run: 0, 1 and 2 of the alphabet; a START and 2 of it; a START and 3, 4 and 5 of the small one;
-/// Ć and 6, 7 and 8 of digits, Ź and a switch.
+/// The trees of the exhaustive run: texts of 0, 1 and 2 code points of the alphabet; a START and 2
+/// of the alphabet; a START and 3, 4 and 5 of the small alphabet; Ć and 6, 7 and 8 of digits, Ź and
+/// a switch.
 fn trees(alphabet: &[u32]) -> Vec<Tree<'_>> {
-    let mut trees = vec![Tree { root: vec![], depth: 0, letters: &[], from: 0 }];
-    trees.extend(alphabet.iter().map(|&one| Tree { root: vec![one], depth: 1, letters: alphabet, from: 1 }));
+    let mut trees = vec![Tree {
+        root: vec![],
+        depth: 0,
+        letters: &[],
+        from: 0,
+    }];
+    trees.extend(alphabet.iter().map(|&one| Tree {
+        root: vec![one],
+        depth: 1,
+        letters: alphabet,
+        from: 1,
+    }));
     let starts = || SWITCH.into_iter();
-    trees.extend(starts().flat_map(|start| alphabet.iter().map(move |&one| Tree { root: vec![start, one], depth: 1, letters: alphabet, from: 3 })));
-    trees.extend(starts().flat_map(|start| SMALL.iter().map(move |&one| Tree { root: vec![start, one], depth: 2, letters: &SMALL, from: 4 })));
-    let twos = || SMALL.iter().flat_map(|&one| SMALL.iter().map(move |&two| (one, two)));
-    trees.extend(starts().flat_map(|start| twos().map(move |(one, two)| Tree { root: vec![start, one, two], depth: 3, letters: &SMALL, from: 5 })));
-    trees.extend(PAIRS.iter().map(|&one| Tree { root: vec![SWITCH[2], one], depth: 7, letters: &PAIRS, from: 7 }));
+    trees.extend(starts().flat_map(|start| {
+        alphabet.iter().map(move |&one| Tree {
+            root: vec![start, one],
+            depth: 1,
+            letters: alphabet,
+            from: 3,
+        })
+    }));
+    trees.extend(starts().flat_map(|start| {
+        SMALL.iter().map(move |&one| Tree {
+            root: vec![start, one],
+            depth: 2,
+            letters: &SMALL,
+            from: 4,
+        })
+    }));
+    let twos = || {
+        SMALL
+            .iter()
+            .flat_map(|&one| SMALL.iter().map(move |&two| (one, two)))
+    };
+    trees.extend(starts().flat_map(|start| {
+        twos().map(move |(one, two)| Tree {
+            root: vec![start, one, two],
+            depth: 3,
+            letters: &SMALL,
+            from: 5,
+        })
+    }));
+    trees.extend(PAIRS.iter().map(|&one| Tree {
+        root: vec![SWITCH[2], one],
+        depth: 7,
+        letters: &PAIRS,
+        from: 7,
+    }));
     trees
 }
 
@@ -93,7 +151,8 @@ pub fn all(run: &Run) -> Result<Tally> {
     let trees = trees(&alphabet);
     run.blocks(trees.len() as u64, |worker, block| {
         let tree = &trees[block as usize];
-        let dead = ask::place_from_left(&tree.root, tries(&tree.root)).filter(|&place| !matches!(ask::ask(&tree.root[..=place]), Crate::NoText(_)));
+        let dead = ask::place_from_left(&tree.root, tries(&tree.root))
+            .filter(|&place| !matches!(ask::ask(&tree.root[..=place]), Crate::NoText(_)));
         walk(worker, tree, &mut tree.root.clone(), tree.depth, dead)
     })
 }
@@ -103,42 +162,59 @@ pub fn points(run: &Run) -> Result<Tally> {
     run.blocks(0x111, |worker, block| {
         for value in (block as u32 * 0x1000..).take(0x1000) {
             visit_short(worker, &[value])?;
-            SWITCH.iter().try_for_each(|&start| visit_short(worker, &[start, value]))?;
+            SWITCH
+                .iter()
+                .try_for_each(|&start| visit_short(worker, &[start, value]))?;
         }
         Ok(())
     })
 }
 
-/// One text, the place of refusal 3 looked for from the left.
+/// Compares one text; the place of refusal 3 is searched from the left.
 fn visit_short(worker: &mut Worker, text: &[u32]) -> Result<()> {
     let said = ask::ask(text);
-    let dead = if said == Crate::Character { ask::place_from_left(text, Tries::Digit) } else { None };
+    let dead = if said == Crate::Character {
+        ask::place_from_left(text, Tries::Digit)
+    } else {
+        None
+    };
     visit(worker, text, &said, dead)
 }
 
-/// One text with a room that depends on what is needed.
+/// Compares one text with a random room, mostly close to what is needed.
 fn one(worker: &mut Worker, random: &mut Random, text: &[u32]) -> Result<()> {
     let said = ask::ask(text);
     let need = match &said {
         Crate::Row(row) => row.len(),
         _ => 35 + random.below(12),
     };
-    with_room(worker, text, &said, inputs::room(random, need), random.mark())
+    with_room(
+        worker,
+        text,
+        &said,
+        inputs::room(random, need),
+        random.mark(),
+    )
 }
 
-/// One text with this room, here and by the type with the crate's signatures.
+/// Compares one text with this room, and through the type with the crate's signatures.
 fn with_room(worker: &mut Worker, text: &[u32], said: &Crate, room: usize, mark: u8) -> Result<()> {
     worker.count_text(text, said);
     worker.drop_in(text, said)?;
-    worker.encode_known(text, said, place_for(text, said), room, mark).map(drop)
+    worker
+        .encode_known(text, said, place_for(text, said), room, mark)
+        .map(drop)
 }
 
-/// Lengths of the labels of `lengths`: each up to 300, and some far over the limit.
+/// The numbers of symbols in `lengths`: each one up to 300, and some far above the limit.
 fn label_lengths() -> Vec<usize> {
-    (1..=300).chain([510, 511, 512, 513, 767, 768, 1000, 2829, 5000]).collect()
+    (1..=300)
+        .chain([510, 511, 512, 513, 767, 768, 1000, 2829, 5000])
+        .collect()
 }
 
-/// Labels of every length in every style, with every room close to the limit of the row, and damaged copies.
+/// Labels of every length in every style, with rooms close to the length of the row; and damaged
+/// copies.
 pub fn lengths(run: &Run) -> Result<Tally> {
     let (lengths, alphabet) = (label_lengths(), inputs::alphabet());
     run.blocks(lengths.len() as u64, |worker, block| {
@@ -160,17 +236,38 @@ pub fn lengths(run: &Run) -> Result<Tally> {
     })
 }
 
-/// Far more symbols than the limit, accepted, and then refused at some place.
+/// Texts of far more symbols than the limit: one that the crate accepts, and one that it refuses at
+/// some place.
 pub fn far(run: &Run) -> Result<Tally> {
-    let lengths = [6000, 65_535, 65_536, 65_537, 65_536 + 255, 65_536 + 256, 70_000];
+    let lengths = [
+        6000,
+        65_535,
+        65_536,
+        65_537,
+        65_536 + 255,
+        65_536 + 256,
+        70_000,
+    ];
     run.blocks(lengths.len() as u64, |worker, block| {
         let mut random = Random::new(run.seed, "encode-far", block);
         let n = lengths[block as usize];
         let mut text = inputs::label(&mut random, n, inputs::Style::Mixed);
-        with_room(worker, &text, &ask::ask(&text), inputs::room(&mut random, 2829), random.mark())?;
+        with_room(
+            worker,
+            &text,
+            &ask::ask(&text),
+            inputs::room(&mut random, 2829),
+            random.mark(),
+        )?;
         let place = random.below(n);
         text.insert(place, 0x20AC);
-        with_room(worker, &text, &ask::ask(&text), inputs::room(&mut random, 2829), random.mark())
+        with_room(
+            worker,
+            &text,
+            &ask::ask(&text),
+            inputs::room(&mut random, 2829),
+            random.mark(),
+        )
     })
 }
 
@@ -183,40 +280,77 @@ pub fn random(run: &Run) -> Result<Tally> {
     })
 }
 
-/// Random accepted texts with Ź inside pairs: moved ahead of the pair, the row is the same; and the other laws of texts.
+/// Random accepted texts, many with Ź inside pairs: the row is the same when Ź is moved ahead of
+/// its pair, and the other laws of texts hold.
 pub fn moved(run: &Run) -> Result<Tally> {
     run.random_blocks("encode-moved", run.random / 20, |worker, random| {
-        let (n, style) = (inputs::symbols(random), if random.chance(70) { inputs::Style::Held } else { random.pick(&STYLES) });
+        let (n, style) = (
+            inputs::symbols(random),
+            if random.chance(70) {
+                inputs::Style::Held
+            } else {
+                random.pick(&STYLES)
+            },
+        );
         let text = inputs::label(random, n, style);
         worker.tally.inputs += 1;
         worker.text_law(&text)
     })
 }
 
-/// The rows met so far and the moved text of each, and the other way round.
+/// The rows so far with the moved text of each, and the moved texts with the row of each.
 #[derive(Default)]
 struct Met {
     by_row: HashMap<Vec<u8>, Vec<u32>>,
     by_moved: HashMap<Vec<u32>, Vec<u8>>,
 }
 
-/// Holds one text that the crate accepts against those met: its row is the crate's, which begins with its START, and another has the
-/// same row exactly if it has the same moved text; and the law of texts for short ones.
+/// Compares one text that the crate accepts with those before it: its row is the crate's and begins
+/// with its START, and another text has the same row exactly if it has the same moved text. For a
+/// short text the law of texts is tested too.
 fn meet(worker: &mut Worker, met: &mut Met, text: &[u32]) -> Result<()> {
-    let Some(row) = ask::row(text) else { return Ok(()) };
+    let Some(row) = ask::row(text) else {
+        return Ok(());
+    };
     let ours = worker.made_row(text);
     if ours.as_ref() != Ok(&row) {
-        return Err(broken(Subject::TextLaw, text.to_vec(), format!("the row: {:?}", Ok::<_, Answer>(&row)), format!("{ours:?}")));
+        return Err(broken(
+            Subject::TextLaw,
+            text.to_vec(),
+            format!("the row: {:?}", Ok::<_, Answer>(&row)),
+            format!("{ours:?}"),
+        ));
     }
-    if worker.model.number(&row[..11]).map(usize::from) != SWITCH.iter().position(|&start| start == text[0]).map(|set| 103 + set) {
-        return Err(broken(Subject::Count, text.to_vec(), "a row that begins with its START".into(), format!("{row:?}")));
+    if worker.model.number(&row[..11]).map(usize::from)
+        != SWITCH
+            .iter()
+            .position(|&start| start == text[0])
+            .map(|set| 103 + set)
+    {
+        return Err(broken(
+            Subject::Count,
+            text.to_vec(),
+            "a row that begins with its START".into(),
+            format!("{row:?}"),
+        ));
     }
     let moved = model::moved(text);
-    let by_row = met.by_row.entry(row.clone()).or_insert_with(|| moved.clone());
-    let by_moved = met.by_moved.entry(moved.clone()).or_insert_with(|| row.clone());
+    let by_row = met
+        .by_row
+        .entry(row.clone())
+        .or_insert_with(|| moved.clone());
+    let by_moved = met
+        .by_moved
+        .entry(moved.clone())
+        .or_insert_with(|| row.clone());
     if *by_row != moved || *by_moved != row {
         let expected = format!("one row exactly for one moved text: {moved:X?} and {row:?}");
-        return Err(broken(Subject::Count, text.to_vec(), expected, format!("{by_row:X?} and {by_moved:?}")));
+        return Err(broken(
+            Subject::Count,
+            text.to_vec(),
+            expected,
+            format!("{by_row:X?} and {by_moved:?}"),
+        ));
     }
     worker.tally.inputs += 1;
     worker.tally.laws += 1;
@@ -226,7 +360,7 @@ fn meet(worker: &mut Worker, met: &mut Met, text: &[u32]) -> Result<()> {
     worker.text_law(text)
 }
 
-/// Meets every text below this one that can be continued.
+/// Does the same for this text and for those that continue it, as long as they can be continued.
 fn meet_below(worker: &mut Worker, met: &mut Met, text: &mut Vec<u32>, depth: usize) -> Result<()> {
     if !ask::continues(text, Tries::Digit) {
         return Ok(());
@@ -240,8 +374,16 @@ fn meet_below(worker: &mut Worker, met: &mut Met, text: &mut Vec<u32>, depth: us
     Ok(())
 }
 
-/// Two accepted texts of a START and up to 5 of the small alphabet have one row of the crate exactly if they have one moved text; each
-/// START is held for itself, as a row begins with its START.
+/// Two accepted texts of a START and up to 5 of the small alphabet have the same row in the crate
+/// exactly if they have the same moved text. Each START is a block of its own, since a row begins
+/// with its START.
 pub fn shared(run: &Run) -> Result<Tally> {
-    run.blocks(3, |worker, block| meet_below(worker, &mut Met::default(), &mut vec![SWITCH[block as usize]], 5))
+    run.blocks(3, |worker, block| {
+        meet_below(
+            worker,
+            &mut Met::default(),
+            &mut vec![SWITCH[block as usize]],
+            5,
+        )
+    })
 }

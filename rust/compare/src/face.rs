@@ -1,9 +1,11 @@
-//! The seven jobs as they are called here: the true face, and wrong ones that show that a run finds what it should.
+//! The seven jobs as the comparison calls them: the true ones, and wrong ones that show that a run
+//! finds a wrong answer.
+use crate::ask;
 use crate::model::{self, Model, STOP};
 use slatmonief::error::Error;
 use slatmonief::sym::code128::Code128;
 
-/// Answer number and second number.
+/// The answer number and the second number.
 pub type Answer = (u32, usize);
 
 /// The seven jobs on lent slices.
@@ -22,14 +24,14 @@ pub trait Face: Sync {
     fn pack(&self, row: &[u8], record: &mut [u8]) -> Answer;
     /// A record to a row.
     fn unpack(&self, record: &[u8], row: &mut [u8]) -> Answer;
-    /// The row by the type with the crate's signatures.
+    /// A text to a row, through the type with the crate's signatures.
     fn code128(&self, text: &str) -> Result<Vec<u8>, Error>;
 }
 
-/// The library that is compared.
+/// The library itself.
 pub struct True;
 
-/// The two numbers of an answer of the face.
+/// The two numbers of an answer of the library.
 fn numbers(answer: Result<usize, slatmonief::Refusal>) -> Answer {
     match answer {
         Ok(second) => (0, second),
@@ -64,7 +66,7 @@ impl Face for True {
     }
 }
 
-/// A wrong answer that can be planted.
+/// A wrong answer that can be planted in the library.
 #[derive(Clone, Copy, Debug, PartialEq, Eq)]
 pub enum Plant {
     /// Refusal 3 one place too far, from place 2 on.
@@ -73,37 +75,37 @@ pub enum Plant {
     Weight,
     /// A refused call of encode writes its first cell.
     Touched,
-    /// An accepted encode says n + 1, from nine symbols on.
+    /// An accepted encode answers n + 1, from nine symbols on.
     Count,
     /// Read accepts a wrong check.
     Replaced,
-    /// A digit held when Ź comes is refused.
+    /// Ź after the first digit of a pair is refused.
     Held,
-    /// Draw writes one cell behind the row.
-    Behind,
-    /// Unpack does not look at the spare bits.
+    /// Draw writes one cell after the row.
+    After,
+    /// Unpack does not test the spare bits.
     Spare,
-    /// Scan takes 99 in set C for a switch and sends nothing.
+    /// Scan takes 99 in set C for a switch and sends nothing for it.
     Pair99,
-    /// Encode counts code points for refusal 2.
+    /// Encode counts code points, not bytes, for refusal 2.
     Points,
-    /// Spell asks for one code point more than it needs.
+    /// Spell asks for room for one code point more than it writes.
     Room,
-    /// Read tells a wrong check before a wrong stop.
+    /// Read answers a wrong check before a wrong stop.
     CheckFirst,
-    /// Unpack tells a wrong length and spare bits before a wrong version.
+    /// Unpack answers a wrong length or a spare bit before a wrong version.
     VersionLast,
-    /// Draw tells a short buffer before a number that may not stand.
+    /// Draw answers a short buffer before a number that is not allowed at its place.
     RoomFirst,
-    /// Encode tells where parsing stops before a later value that is no scalar value.
+    /// Encode answers where parsing stops before a later value that is not a scalar value.
     CharacterFirst,
-    /// Refusal 1 with the place of the last such value.
+    /// Refusal 1 with the place of the last value that is not a scalar value.
     LastScalar,
-    /// Refusal 4 with 256 whatever is needed.
+    /// Refusal 4 always with 256.
     Needed,
-    /// Pack answers the cells and not the bytes written.
+    /// Pack answers the number of cells, not of bytes.
     Packed,
-    /// The type with the crate's signatures tells `Length` for `Character`.
+    /// The type with the crate's signatures gives `Length` for `Character`.
     DropIn,
 }
 
@@ -115,7 +117,7 @@ pub const PLANTS: [(&str, Plant); 19] = [
     ("count", Plant::Count),
     ("replaced", Plant::Replaced),
     ("held", Plant::Held),
-    ("behind", Plant::Behind),
+    ("after", Plant::After),
     ("spare", Plant::Spare),
     ("pair99", Plant::Pair99),
     ("points", Plant::Points),
@@ -130,26 +132,35 @@ pub const PLANTS: [(&str, Plant); 19] = [
     ("drop-in", Plant::DropIn),
 ];
 
-/// The true face with one wrong answer planted in it.
+/// The library with one wrong answer planted in it.
 pub struct Wrong {
     plant: Plant,
     model: Model,
 }
 
 impl Wrong {
-    /// A face with this plant.
+    /// The library with this wrong answer.
     pub fn new(plant: Plant) -> Wrong {
-        Wrong { plant, model: Model::new() }
+        Wrong {
+            plant,
+            model: Model::new(ask::patterns()),
+        }
     }
 
-    /// Puts the check that weight i+1 gives into an accepted row of n symbols.
+    /// Puts a wrong check into an accepted row of n symbols: place i has weight i+1.
     fn weigh_wrongly(&self, row: &mut [u8], n: usize) {
-        let numbers = row[..11 * n].chunks(11).map(|block| usize::from(self.model.number(block).unwrap_or(0)));
-        let check = numbers.enumerate().map(|(i, number)| number * (i + 1)).sum::<usize>() % 103;
+        let numbers = row[..11 * n]
+            .chunks(11)
+            .map(|block| usize::from(self.model.number(block).unwrap_or(0)));
+        let check = numbers
+            .enumerate()
+            .map(|(i, number)| number * (i + 1))
+            .sum::<usize>()
+            % 103;
         row[11 * n..11 * n + 11].copy_from_slice(self.model.pattern(check as u8));
     }
 
-    /// The row with the check that read calls right.
+    /// The row with the right check.
     fn with_check(&self, row: &[u8], right: usize) -> Vec<u8> {
         let mut row = row.to_vec();
         let place = row.len() - 24;
@@ -158,25 +169,34 @@ impl Wrong {
     }
 }
 
-/// The place of the last value that is no scalar value.
+/// The place of the last value that is not a scalar value.
 fn last_no_scalar(text: &[u32]) -> Option<usize> {
-    text.iter().rposition(|&point| char::from_u32(point).is_none())
+    text.iter()
+        .rposition(|&point| char::from_u32(point).is_none())
 }
 
-/// The row with a right stop.
+/// The row with the right stop.
 fn with_stop(row: &[u8]) -> Vec<u8> {
     [&row[..row.len() - 13], &STOP].concat()
 }
 
-/// The place of the first Ź that stands right behind a first digit after Ć.
+/// The place of a Ź after Ć and a digit at the beginning of the text.
 fn held_at(text: &[u32]) -> Option<usize> {
-    (text.first() == Some(&0x106) && text.len() > 2 && (0x30..0x3A).contains(&text[1]) && text[2] == 0x179).then_some(2)
+    (text.first() == Some(&0x106)
+        && text.len() > 2
+        && (0x30..0x3A).contains(&text[1])
+        && text[2] == 0x179)
+        .then_some(2)
 }
 
 impl Face for Wrong {
     fn encode(&self, text: &[u32], row: &mut [u8]) -> Answer {
         let before = row.first().copied();
-        let kept = if self.plant == Plant::Held { row.to_vec() } else { Vec::new() };
+        let kept = if self.plant == Plant::Held {
+            row.to_vec()
+        } else {
+            Vec::new()
+        };
         let answer = True.encode(text, row);
         match (self.plant, answer) {
             (Plant::Place, (3, place)) if place >= 2 => (3, place + 1),
@@ -206,10 +226,11 @@ impl Face for Wrong {
 
     fn draw(&self, list: &[u8], row: &mut [u8]) -> Answer {
         let answer = True.draw(list, row);
-        if self.plant == Plant::RoomFirst && answer.0 == 13 && row.len() < model::cells(list.len()) {
+        if self.plant == Plant::RoomFirst && answer.0 == 13 && row.len() < model::cells(list.len())
+        {
             return (5, model::cells(list.len()));
         }
-        if let (Plant::Behind, (0, n)) = (self.plant, answer) {
+        if let (Plant::After, (0, n)) = (self.plant, answer) {
             if let Some(cell) = row.get_mut(model::cells(n)) {
                 *cell ^= 1;
             }
@@ -256,10 +277,12 @@ impl Face for Wrong {
                 clean[last] = 0;
                 True.unpack(&clean, row)
             }
-            (Plant::VersionLast, (21, version)) => match True.unpack(&[&[1], &record[1..]].concat(), &mut []) {
-                (number @ (22 | 23), second) => (number, second),
-                _ => (21, version),
-            },
+            (Plant::VersionLast, (21, version)) => {
+                match True.unpack(&[&[1], &record[1..]].concat(), &mut []) {
+                    (number @ (22 | 23), second) => (number, second),
+                    _ => (21, version),
+                }
+            }
             (_, answer) => answer,
         }
     }

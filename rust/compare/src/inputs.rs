@@ -1,19 +1,25 @@
-//! The inputs: alphabets, labels, lists, rows, and damaged copies of them.
+//! The inputs: alphabets, labels, symbol lists, rows, and damaged copies of them.
 use crate::model::{self, Model, FNC1, LIMIT, SWITCH};
 use crate::random::Random;
 
 /// Digits that are not ASCII.
 const OTHER_DIGITS: [u32; 8] = [0x660, 0x661, 0x669, 0xFF10, 0xFF11, 0xFF19, 0xB2, 0x967];
-/// Values that are no scalar values.
+/// Values that are not scalar values.
 const NO_SCALARS: [u32; 4] = [0xD800, 0xDFFF, 0x11_0000, 0xFFFF_FFFF];
-/// Where the number of UTF-8 bytes changes, and the ends of what is a scalar value.
-const EDGES: [u32; 9] = [0x7F, 0x80, 0x7FF, 0x800, 0xD7FF, 0xE000, 0xFFFF, 0x1_0000, 0x10_FFFF];
-/// The named letters.
+/// Code points where the number of UTF-8 bytes changes, and the first and last of the scalar
+/// values.
+const EDGES: [u32; 9] = [
+    0x7F, 0x80, 0x7FF, 0x800, 0xD7FF, 0xE000, 0xFFFF, 0x1_0000, 0x10_FFFF,
+];
+/// The letters of the switches, of Shift and of the function symbols.
 const NAMED: [u32; 8] = [0xC0, 0x181, 0x106, 0x179, 0x17A, 0x17B, 0x17C, 0x17D];
 /// A small alphabet for longer exhaustive runs.
-pub const SMALL: [u32; 14] = [0x30, 0x31, 0x39, 0x41, 0x61, 0x1F, 0x20, 0x5F, 0xC0, 0x181, 0x106, 0x179, 0x17D, 0x17C];
+pub const SMALL: [u32; 14] = [
+    0x30, 0x31, 0x39, 0x41, 0x61, 0x1F, 0x20, 0x5F, 0xC0, 0x181, 0x106, 0x179, 0x17D, 0x17C,
+];
 
-/// Every code point that has a number in a set, with its neighbours, and what is worth trying besides.
+/// Every code point that has a number in some set, its neighbours, and other values that are worth
+/// a test.
 pub fn alphabet() -> Vec<u32> {
     let mut points: Vec<u32> = (0..=0x7E).chain([0xF6, 0xF7, 0xF8]).collect();
     points.extend(NAMED.iter().flat_map(|&named| named - 1..=named + 1));
@@ -32,9 +38,9 @@ pub enum Style {
     B,
     /// Set C only.
     C,
-    /// All three, with switches.
+    /// All three sets, with switches.
     Mixed,
-    /// Set C, with Ź between the digits of many pairs.
+    /// Set C only, with Ź inside many pairs.
     Held,
 }
 
@@ -65,7 +71,8 @@ pub fn label(random: &mut Random, n: usize, style: Style) -> Vec<u32> {
     text
 }
 
-/// A Ź or a pair in set C, with up to three Ź between its digits; answers the symbols that it makes.
+/// Adds a Ź or a pair in set C, the pair with up to three Ź inside; returns the number of symbols
+/// that it makes.
 fn in_c(random: &mut Random, text: &mut Vec<u32>, left: usize, style: Style) -> usize {
     if random.chance(5) {
         text.push(FNC1);
@@ -76,14 +83,18 @@ fn in_c(random: &mut Random, text: &mut Vec<u32>, left: usize, style: Style) -> 
         Style::Mixed => 10,
         _ => 0,
     };
-    let between = if random.chance(often) { (1 + random.below(3)).min(left - 1) } else { 0 };
+    let between = if random.chance(often) {
+        (1 + random.below(3)).min(left - 1)
+    } else {
+        0
+    };
     text.push(0x30 + random.below(10) as u32);
     text.extend(vec![FNC1; between]);
     text.push(0x30 + random.below(10) as u32);
     1 + between
 }
 
-/// A code point that has a number in set A or B and is no switch.
+/// A code point that has a number in set A or B and is not a switch.
 fn ordinary(random: &mut Random, set: usize) -> u32 {
     if random.chance(10) {
         return random.pick(&NAMED[3..]);
@@ -95,7 +106,8 @@ fn ordinary(random: &mut Random, set: usize) -> u32 {
     }
 }
 
-/// How long a random label is: mostly short, some long, a few close to the limit.
+/// The number of symbols of a random label: mostly small, sometimes large, seldom close to the
+/// limit.
 pub fn symbols(random: &mut Random) -> usize {
     match random.below(1000) {
         0..=919 => 1 + random.below(9),
@@ -106,8 +118,8 @@ pub fn symbols(random: &mut Random) -> usize {
     }
 }
 
-/// A random text: a good label, a damaged one (fewer of the long ones, as the place of refusal 3 takes the crate long there), or code
-/// points of the alphabet as they come.
+/// A random text: a good label, a damaged label, or any code points of the alphabet. Fewer of the
+/// long labels are damaged, since there the search for the place of refusal 3 takes long.
 pub fn text(random: &mut Random, alphabet: &[u32]) -> Vec<u32> {
     let kind = random.below(100);
     if kind < 6 {
@@ -123,7 +135,7 @@ pub fn text(random: &mut Random, alphabet: &[u32]) -> Vec<u32> {
     text
 }
 
-/// Code points of the alphabet or of the small one as they come, mostly after a START.
+/// Any code points of the alphabet or of the small alphabet, mostly after a START.
 fn letters(random: &mut Random, alphabet: &[u32]) -> Vec<u32> {
     let from = if random.chance(50) { alphabet } else { &SMALL };
     let mut text: Vec<u32> = (0..random.below(9)).map(|_| random.pick(from)).collect();
@@ -133,7 +145,8 @@ fn letters(random: &mut Random, alphabet: &[u32]) -> Vec<u32> {
     text
 }
 
-/// One damage: replaced, removed, doubled, swapped, cut, or something put in.
+/// Damages a text in one place: a code point is replaced, removed, doubled, exchanged or put in, or
+/// the end is cut off.
 pub fn damage(random: &mut Random, text: &mut Vec<u32>, alphabet: &[u32]) {
     if text.is_empty() {
         return;
@@ -154,20 +167,31 @@ pub fn damage(random: &mut Random, text: &mut Vec<u32>, alphabet: &[u32]) {
     }
 }
 
-/// A symbol list of length n that may be drawn; the special numbers come often.
+/// A symbol list of length n that draw accepts; the switches and function symbols are frequent.
 pub fn list(random: &mut Random, n: usize) -> Vec<u8> {
     let special = random.below(60);
-    let data = |random: &mut Random| if random.chance(special) { 94 + random.below(9) } else { random.below(103) };
-    (0..n).map(|place| if place == 0 { 103 + random.below(3) } else { data(random) } as u8).collect()
+    let data = |random: &mut Random| {
+        if random.chance(special) {
+            94 + random.below(9)
+        } else {
+            random.below(103)
+        }
+    };
+    let number = |place| match place {
+        0 => 103 + random.below(3) as u8,
+        _ => data(random) as u8,
+    };
+    (0..n).map(number).collect()
 }
 
-/// A symbol list of length n in one set alone (A is 0, B is 1, C is 2), of numbers that a scanner sends something for.
+/// A symbol list of length n in one set (0 is A, 1 is B, 2 is C), of numbers for which a scanner
+/// sends something.
 pub fn list_in(random: &mut Random, n: usize, set: usize) -> Vec<u8> {
     let end = if set == 2 { 100 } else { 96 };
     (0..n).map(|place| if place == 0 { 103 + set } else { random.below(end) } as u8).collect()
 }
 
-/// One damage of a list.
+/// Damages a symbol list in one place.
 pub fn damage_list(random: &mut Random, list: &mut Vec<u8>) {
     if list.is_empty() {
         return;
@@ -183,7 +207,7 @@ pub fn damage_list(random: &mut Random, list: &mut Vec<u8>) {
     }
 }
 
-/// One damage of a row: a cell, a block, the check, the stop or the length.
+/// Damages a row in one place: a cell, a block, the check, the stop or the length.
 pub fn damage_row(random: &mut Random, model: &Model, row: &mut Vec<u8>) {
     if row.len() < 35 {
         return;
@@ -205,7 +229,7 @@ pub fn damage_row(random: &mut Random, model: &Model, row: &mut Vec<u8>) {
     }
 }
 
-/// A row of another length: some cells less or more.
+/// Makes a row shorter or longer by some cells.
 fn resize(random: &mut Random, row: &mut Vec<u8>) {
     let by = random.pick(&[1, 2, 10, 11, 12, 13, 22]);
     if random.chance(50) {
@@ -215,25 +239,36 @@ fn resize(random: &mut Random, row: &mut Vec<u8>) {
     }
 }
 
-/// Random cells of a possible length.
+/// Random cells, as many as a row of n symbols has.
 pub fn cells(random: &mut Random, n: usize) -> Vec<u8> {
-    (0..model::cells(n)).map(|_| (random.bits() >> 63) as u8).collect()
+    (0..model::cells(n))
+        .map(|_| (random.bits() >> 63) as u8)
+        .collect()
 }
 
-/// How long a random list or row is.
+/// The number of symbols of a random list or row.
 pub fn length(random: &mut Random) -> usize {
     symbols(random).min(LIMIT)
 }
 
-/// Buffer lengths close to what is needed.
+/// Buffer lengths close to the one that is needed.
 pub fn near(need: usize) -> Vec<usize> {
-    let mut rooms = vec![0, need / 2, need.saturating_sub(2), need.saturating_sub(1), need, need + 1, need + 2, need + 64];
+    let mut rooms = vec![
+        0,
+        need / 2,
+        need.saturating_sub(2),
+        need.saturating_sub(1),
+        need,
+        need + 1,
+        need + 2,
+        need + 64,
+    ];
     rooms.sort_unstable();
     rooms.dedup();
     rooms
 }
 
-/// A random buffer length, mostly close to what is needed.
+/// A random buffer length, mostly close to the one that is needed.
 pub fn room(random: &mut Random, need: usize) -> usize {
     match random.below(20) {
         0 => 0,

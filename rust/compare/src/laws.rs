@@ -1,12 +1,17 @@
-//! Laws that join the jobs, here and with the crate; and one call again, for shrinking and for `--case`.
+//! The laws between the jobs, in the library and in the crate; and one comparison again, for
+//! shrinking and for `--case`.
 use crate::ask;
 use crate::check::{broken, wide, Element, Fault, Subject, Worker};
 use crate::face::Answer;
 use crate::model::{self, LIMIT};
 use std::fmt::Debug;
 
-/// A job's front in a vector of its own, or its refusal.
-fn made<T: Element>(room: usize, length: fn(usize) -> usize, call: impl FnOnce(&mut [T]) -> Answer) -> Result<Vec<T>, Answer> {
+/// The front that a job writes, as a vector, or its refusal.
+fn made<T: Element>(
+    room: usize,
+    length: fn(usize) -> usize,
+    call: impl FnOnce(&mut [T]) -> Answer,
+) -> Result<Vec<T>, Answer> {
     let mut buffer = vec![T::of_mark(0xA7); room];
     match call(&mut buffer) {
         (0, n) if length(n) <= room => Ok(buffer[..length(n)].to_vec()),
@@ -14,91 +19,191 @@ fn made<T: Element>(room: usize, length: fn(usize) -> usize, call: impl FnOnce(&
     }
 }
 
-/// An element count is its own length.
+/// The length of the front, for a job that answers the number of its elements.
 fn itself(n: usize) -> usize {
     n
 }
 
 impl Worker<'_> {
-    /// Encode into a row of its own.
+    /// The row that encode writes.
     pub fn made_row(&self, text: &[u32]) -> Result<Vec<u8>, Answer> {
         made(3000, model::cells, |row| self.face.encode(text, row))
     }
 
-    /// Draw into a row of its own.
+    /// The row that draw writes.
     fn drawn(&self, list: &[u8]) -> Result<Vec<u8>, Answer> {
         made(3000, model::cells, |row| self.face.draw(list, row))
     }
 
-    /// Read into a list of its own.
+    /// The list that read writes.
     fn list_read(&self, row: &[u8]) -> Result<Vec<u8>, Answer> {
         made(300, itself, |list| self.face.read(row, list))
     }
 
-    /// Spell into a text of its own.
+    /// The text that spell writes.
     fn spelled(&self, list: &[u8]) -> Result<Vec<u32>, Answer> {
         made(600, itself, |text| self.face.spell(list, text))
     }
 
-    /// Holds two things together, for a law.
-    fn same<T: PartialEq + Debug>(&self, law: Subject, input: &[u32], what: &str, expected: T, got: T) -> Result<(), Box<Fault>> {
+    /// Compares two values, for a law.
+    fn same<T: PartialEq + Debug>(
+        &self,
+        law: Subject,
+        input: &[u32],
+        what: &str,
+        expected: T,
+        got: T,
+    ) -> Result<(), Box<Fault>> {
         if expected == got {
             return Ok(());
         }
-        Err(broken(law, input.to_vec(), format!("{what}: {expected:?}"), format!("{got:?}")))
+        Err(broken(
+            law,
+            input.to_vec(),
+            format!("{what}: {expected:?}"),
+            format!("{got:?}"),
+        ))
     }
 
-    /// An accepted text: its row is read, drawn and spelled again, and the text with Ź moved has that row, here and in the crate.
+    /// An accepted text: the symbols of its row are read, drawn and spelled, and the text with Ź
+    /// moved has the same row, in the library and in the crate.
     pub fn text_law(&mut self, text: &[u32]) -> Result<(), Box<Fault>> {
         let law = Subject::TextLaw;
-        let Some(row) = ask::row(text).filter(|row| row.len() <= model::cells(LIMIT)) else { return Ok(()) };
+        let Some(row) = ask::row(text).filter(|row| row.len() <= model::cells(LIMIT)) else {
+            return Ok(());
+        };
         let moved = model::moved(text);
-        self.same(law, text, "the crate's row of the moved text", Some(&row), ask::row(&moved).as_ref())?;
-        self.same(law, text, "the row of the moved text", Ok(&row), self.made_row(&moved).as_ref())?;
+        self.same(
+            law,
+            text,
+            "the crate's row of the moved text",
+            Some(&row),
+            ask::row(&moved).as_ref(),
+        )?;
+        self.same(
+            law,
+            text,
+            "the row of the moved text",
+            Ok(&row),
+            self.made_row(&moved).as_ref(),
+        )?;
         self.same(law, text, "the row", Ok(&row), self.made_row(text).as_ref())?;
         let list = self.model.read(&row, LIMIT).front;
-        self.same(law, text, "the list read from the row", Ok(&list), self.list_read(&row).as_ref())?;
-        self.same(law, text, "the row of the list", Ok(&row), self.drawn(&list).as_ref())?;
-        self.same(law, text, "the spelling is the moved text", Ok(&moved), self.spelled(&list).as_ref())?;
+        self.same(
+            law,
+            text,
+            "the list read from the row",
+            Ok(&list),
+            self.list_read(&row).as_ref(),
+        )?;
+        self.same(
+            law,
+            text,
+            "the row of the list",
+            Ok(&row),
+            self.drawn(&list).as_ref(),
+        )?;
+        self.same(
+            law,
+            text,
+            "the spelling is the moved text",
+            Ok(&moved),
+            self.spelled(&list).as_ref(),
+        )?;
         self.tally.laws += 1;
         Ok(())
     }
 
-    /// A list that is drawn: its row is read back, and its spelling has that row, here and in the crate.
+    /// A list that is drawn: its row is read back, and its spelling has the same row, in the
+    /// library and in the crate.
     pub fn list_law(&mut self, list: &[u8]) -> Result<(), Box<Fault>> {
         let law = Subject::ListLaw;
-        let Ok(row) = self.drawn(list) else { return Ok(()) };
+        let Ok(row) = self.drawn(list) else {
+            return Ok(());
+        };
         let shown = wide(list);
-        self.same(law, &shown, "the list read from its row", Ok(list), self.list_read(&row).as_deref())?;
+        self.same(
+            law,
+            &shown,
+            "the list read from its row",
+            Ok(list),
+            self.list_read(&row).as_deref(),
+        )?;
         let text = self.spelled(list);
-        let Ok(text) = text else { return self.same(law, &shown, "the list is spelled", Ok(Vec::new()), text) };
-        self.same(law, &shown, "the row of the spelling", Ok(&row), self.made_row(&text).as_ref())?;
-        self.same(law, &shown, "the crate's row of the spelling", Some(&row), ask::row(&text).as_ref())?;
-        self.same(law, &shown, "the spelling has no Ź inside a pair", &text, &model::moved(&text))?;
+        let Ok(text) = text else {
+            return self.same(law, &shown, "the list is spelled", Ok(Vec::new()), text);
+        };
+        self.same(
+            law,
+            &shown,
+            "the row of the spelling",
+            Ok(&row),
+            self.made_row(&text).as_ref(),
+        )?;
+        self.same(
+            law,
+            &shown,
+            "the crate's row of the spelling",
+            Some(&row),
+            ask::row(&text).as_ref(),
+        )?;
+        self.same(
+            law,
+            &shown,
+            "the spelling has no Ź inside a pair",
+            &text,
+            &model::moved(&text),
+        )?;
         self.tally.laws += 1;
         Ok(())
     }
 
     /// Cells that are packed are unpacked to the same cells.
     pub fn row_law(&mut self, row: &[u8]) -> Result<(), Box<Fault>> {
-        let Ok(record) = made(400, itself, |record: &mut [u8]| self.face.pack(row, record)) else { return Ok(()) };
-        let back = made(3000, itself, |cells: &mut [u8]| self.face.unpack(&record, cells));
-        self.same(Subject::RowLaw, &wide(row), "unpack of pack", Ok(row), back.as_deref())?;
+        let Ok(record) = made(400, itself, |record: &mut [u8]| self.face.pack(row, record)) else {
+            return Ok(());
+        };
+        let back = made(3000, itself, |cells: &mut [u8]| {
+            self.face.unpack(&record, cells)
+        });
+        self.same(
+            Subject::RowLaw,
+            &wide(row),
+            "unpack of pack",
+            Ok(row),
+            back.as_deref(),
+        )?;
         self.tally.laws += 1;
         Ok(())
     }
 
     /// A record that is unpacked is packed to the same bytes.
     pub fn record_law(&mut self, record: &[u8]) -> Result<(), Box<Fault>> {
-        let Ok(row) = made(3000, itself, |row: &mut [u8]| self.face.unpack(record, row)) else { return Ok(()) };
-        let back = made(400, itself, |record: &mut [u8]| self.face.pack(&row, record));
-        self.same(Subject::RecordLaw, &wide(record), "pack of unpack", Ok(record), back.as_deref())?;
+        let Ok(row) = made(3000, itself, |row: &mut [u8]| self.face.unpack(record, row)) else {
+            return Ok(());
+        };
+        let back = made(400, itself, |record: &mut [u8]| {
+            self.face.pack(&row, record)
+        });
+        self.same(
+            Subject::RecordLaw,
+            &wide(record),
+            "pack of unpack",
+            Ok(record),
+            back.as_deref(),
+        )?;
         self.tally.laws += 1;
         Ok(())
     }
 
-    /// Calls a subject again, for shrinking and for `--case`.
-    pub fn again(&mut self, subject: Subject, input: &[u32], room: usize, mark: u8) -> Result<(), Box<Fault>> {
+    /// Compares a subject again, for shrinking and for `--case`.
+    pub fn again(
+        &mut self,
+        subject: Subject,
+        input: &[u32],
+        room: usize,
+        mark: u8,
+    ) -> Result<(), Box<Fault>> {
         let bytes: Vec<u8> = input.iter().map(|&element| element as u8).collect();
         match subject {
             Subject::Encode => self.encode(input, room, mark).map(drop),

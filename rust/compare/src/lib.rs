@@ -1,9 +1,14 @@
-//! Holds the library against the crate barcoders (encode) and against a plain model written from document 01 (the other six jobs).
+//! Compares the library with the crate barcoders (encode), and with a plain model of document 01
+//! (the other six jobs).
 //!
-//! Every call is compared in full: answer number, second number and every element of the lent buffer, with a fence around it. What
-//! may differ from the crate is decided in one place, `encode_said` of [`check`] (and `Worker::drop_in` for the type with the crate's
-//! signatures); [`listed`] only counts the calls under each row of docs/DIFFERENCES.md. Any other difference ends the run, with its
-//! input made as small as possible.
+//! Every call is compared in full: the answer number, the second number, and every element of the
+//! lent buffer and of a fence around it. One function decides where encode may differ from the
+//! crate: `encode_said` in [`check`] (for the type with the crate's signatures, `Worker::drop_in`).
+//! The module [`listed`] only counts the calls for each row of docs/DIFFERENCES.md. Any other
+//! difference ends the run, with its input made as small as possible.
+//!
+//! [`ask`] asks the crate. [`model`] is the model, and uses no other module; [`ask::patterns`]
+//! gives it the bar patterns.
 #![warn(missing_docs)]
 
 pub mod ask;
@@ -32,11 +37,11 @@ pub struct Part {
     pub name: &'static str,
     /// Whether its inputs are inputs of encode.
     pub encode: bool,
-    /// Does it.
+    /// Does the work.
     pub work: fn(&Run) -> run::Result<Tally>,
 }
 
-/// A part of the comparison.
+/// Makes a part.
 const fn part(name: &'static str, encode: bool, work: fn(&Run) -> run::Result<Tally>) -> Part {
     Part { name, encode, work }
 }
@@ -71,19 +76,32 @@ pub const PARTS: [Part; 17] = [
     part("records-random", false, records::random),
 ];
 
-/// The refusals of document 01.
+/// The numbers of document 01's refusals.
 const REFUSALS: [usize; 15] = [1, 2, 3, 4, 5, 10, 11, 12, 13, 14, 15, 20, 21, 22, 23];
 
-/// What all parts together must meet and this tally did not: an accepted call, each refusal, each row of the list, the type with the
-/// crate's signatures.
+/// What a whole run must come across and this tally has not: an accepted call, each refusal, each
+/// row of the list, the type with the crate's signatures.
 pub fn unmet(tally: &Tally) -> Vec<String> {
-    let kinds = [("an accepted call".into(), tally.accepted), ("the type with the crate's signatures".into(), tally.drop_in)].into_iter();
-    let refused = REFUSALS.iter().map(|&number| (format!("refusal {number}"), tally.refused[number]));
-    let listed = LIST.iter().map(|&(listed, name)| (format!("the row '{name}'"), tally.listed[listed as usize]));
-    kinds.chain(refused).chain(listed).filter(|(_, count)| *count == 0).map(|(what, _)| what).collect()
+    let kinds = [
+        ("an accepted call".into(), tally.accepted),
+        ("the type with the crate's signatures".into(), tally.drop_in),
+    ]
+    .into_iter();
+    let refused = REFUSALS
+        .iter()
+        .map(|&number| (format!("refusal {number}"), tally.refused[number]));
+    let listed = LIST
+        .iter()
+        .map(|&(listed, name)| (format!("the row '{name}'"), tally.listed[listed as usize]));
+    kinds
+        .chain(refused)
+        .chain(listed)
+        .filter(|(_, count)| *count == 0)
+        .map(|(what, _)| what)
+        .collect()
 }
 
-/// Does one part; a difference comes back as it was met and made small.
+/// Does one part. A difference is returned twice: as it was found, and made small.
 pub fn compare(part: &Part, run: &Run) -> Result<Tally, Box<(Fault, Fault)>> {
     (part.work)(run).map_err(|met| {
         let small = shrink::shrink(&mut Worker::new(run.face, run.model), (*met).clone());

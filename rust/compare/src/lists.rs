@@ -1,11 +1,12 @@
-//! Draw, spell and scan over symbol lists, good and damaged.
+//! Compares draw, spell and scan on symbol lists, good and damaged.
 use crate::check::{Tally, Worker};
 use crate::inputs;
 use crate::model::cells;
 use crate::random::Random;
 use crate::run::{Result, Run};
 
-/// The three jobs on one list, each with every buffer length close to what is needed, and the law of lists.
+/// Compares the three jobs on one list, each with buffer lengths close to the one that is needed;
+/// and tests the law of lists.
 fn close(worker: &mut Worker, list: &[u8]) -> Result<()> {
     worker.tally.inputs += 1;
     let spelled = worker.model.spell(list, usize::MAX);
@@ -26,10 +27,11 @@ fn close(worker: &mut Worker, list: &[u8]) -> Result<()> {
     worker.list_law(list)
 }
 
-/// Numbers that move the set, stand at the ends of a range or may not stand.
+/// Numbers that change the set, that are at the ends of a range, or that are not allowed.
 const SPECIAL: [u8; 14] = [0, 63, 64, 94, 95, 96, 97, 98, 99, 100, 101, 102, 103, 255];
 
-/// All lists of one and two numbers from 0 to 255 (by the first one), and each START with up to four special numbers.
+/// All lists of one and two numbers from 0 to 255, a block for each first number; and each START
+/// with up to four special numbers.
 pub fn all(run: &Run) -> Result<Tally> {
     run.blocks(256 + 3 * 14, |worker, block| {
         if block < 256 {
@@ -37,11 +39,16 @@ pub fn all(run: &Run) -> Result<Tally> {
             return (0..=255).try_for_each(|second| close(worker, &[block as u8, second]));
         }
         let (start, first) = ((block - 256) / 14, (block - 256) % 14);
-        special(worker, &mut vec![103 + start as u8, SPECIAL[first as usize]], 3)
+        special(
+            worker,
+            &mut vec![103 + start as u8, SPECIAL[first as usize]],
+            3,
+        )
     })
 }
 
-/// This list where it has three numbers or more, and all that go on with up to `depth` special numbers.
+/// Compares this list, if it has three numbers or more, and all lists that continue it with up to
+/// `depth` special numbers.
 fn special(worker: &mut Worker, list: &mut Vec<u8>, depth: usize) -> Result<()> {
     if list.len() > 2 {
         plain(worker, list)?;
@@ -54,7 +61,8 @@ fn special(worker: &mut Worker, list: &mut Vec<u8>, depth: usize) -> Result<()> 
     Ok(())
 }
 
-/// The three jobs on one list with enough room, and the law of lists for short ones.
+/// Compares the three jobs on one list with enough room; for a short list tests the law of lists
+/// too.
 fn plain(worker: &mut Worker, list: &[u8]) -> Result<()> {
     worker.tally.inputs += 1;
     worker.draw(list, 100, 0xA7)?;
@@ -66,7 +74,8 @@ fn plain(worker: &mut Worker, list: &[u8]) -> Result<()> {
     worker.list_law(list)
 }
 
-/// Random lists, more than half of them good, with random room; the good ones are held to the law of lists.
+/// Random lists with random room, more than half of them good; for the good ones the law of lists
+/// is tested.
 pub fn random(run: &Run) -> Result<Tally> {
     run.random_blocks("lists-random", run.random / 20, |worker, random| {
         let n = inputs::length(random);
@@ -79,25 +88,47 @@ pub fn random(run: &Run) -> Result<Tally> {
     })
 }
 
-/// The three jobs on any list with random room.
+/// Compares the three jobs on any list with random room.
 fn with_any_room(worker: &mut Worker, random: &mut Random, list: &[u8]) -> Result<()> {
     worker.tally.inputs += 1;
-    let (spelled, sent) = (worker.model.spell(list, usize::MAX).front.len(), worker.model.scan(list, usize::MAX).front.len());
+    let (spelled, sent) = (
+        worker.model.spell(list, usize::MAX).front.len(),
+        worker.model.scan(list, usize::MAX).front.len(),
+    );
     worker.draw(list, inputs::room(random, cells(list.len())), random.mark())?;
     worker.spell(list, inputs::room(random, spelled), random.mark())?;
-    worker.scan(list, inputs::room(random, sent), random.mark()).map(drop)
+    worker
+        .scan(list, inputs::room(random, sent), random.mark())
+        .map(drop)
 }
 
-/// Lists of every length up to 300 and some where a length kept in few bits would come round.
+/// Lists of every length up to 300, and of some lengths that would overflow 8 or 16 bits.
 pub fn lengths(run: &Run) -> Result<Tally> {
-    let lengths: Vec<usize> = (0..=300).chain([511, 512, 513, 767, 768, 65_535, 65_536, 65_537, 65_536 + 255]).collect();
+    let lengths: Vec<usize> = (0..=300)
+        .chain([
+            511,
+            512,
+            513,
+            767,
+            768,
+            65_535,
+            65_536,
+            65_537,
+            65_536 + 255,
+        ])
+        .collect();
     run.blocks(lengths.len() as u64, |worker, block| {
         let mut random = Random::new(run.seed, "list-lengths", block);
         let length = lengths[block as usize];
         let good = inputs::list(&mut random, length);
         let mut last = good.clone();
-        last.iter_mut().last().into_iter().for_each(|number| *number = 103);
-        let pairs = (0..length).map(|place| if place == 0 { 105 } else { (place % 100) as u8 }).collect();
+        last.iter_mut()
+            .last()
+            .into_iter()
+            .for_each(|number| *number = 103);
+        let pairs = (0..length)
+            .map(|place| if place == 0 { 105 } else { (place % 100) as u8 })
+            .collect();
         for list in [good, last, pairs, vec![0; length], vec![104; length]] {
             with_any_room(worker, &mut random, &list)?;
             worker.list_law(&list)?;

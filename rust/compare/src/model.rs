@@ -1,28 +1,37 @@
-//! A plain model of six jobs, written from document 01. The patterns are drawn out of the crate's rows.
-use crate::ask;
+//! A plain model of six jobs, written from document 01. It is given the bar patterns and uses
+//! nothing else.
 
-/// What a job must say: answer number, second number, and the elements at the front of the buffer (none for a refusal).
+/// What a job must answer: the answer number, the second number, and the elements at the front of
+/// the buffer (none for a refusal).
 #[derive(Clone, Debug, PartialEq, Eq)]
 pub struct Said<T> {
     /// 0, or the number of the refusal.
     pub number: u32,
     /// The second number.
     pub second: usize,
-    /// What is written; all else is as lent.
+    /// The elements that are written; the rest of the buffer is unchanged.
     pub front: Vec<T>,
 }
 
 /// An accepted call.
 pub fn accept<T>(second: usize, front: Vec<T>) -> Said<T> {
-    Said { number: 0, second, front }
+    Said {
+        number: 0,
+        second,
+        front,
+    }
 }
 
 /// A refused call.
 pub fn refuse<T>(number: u32, second: usize) -> Said<T> {
-    Said { number, second, front: Vec::new() }
+    Said {
+        number,
+        second,
+        front: Vec::new(),
+    }
 }
 
-/// An accepted call, or refusal 5 where the room is too short for the front.
+/// An accepted call, or refusal 5 if the front does not fit in the room.
 fn in_room<T>(room: usize, second: usize, front: Vec<T>) -> Said<T> {
     if room < front.len() {
         return refuse(5, front.len());
@@ -30,48 +39,57 @@ fn in_room<T>(room: usize, second: usize, front: Vec<T>) -> Said<T> {
     accept(second, front)
 }
 
-/// The limit of n.
+/// The largest n, the number of symbols in a list.
 pub const LIMIT: usize = 255;
 /// The stop, as document 01 writes it.
 pub const STOP: [u8; 13] = [1, 1, 0, 0, 0, 1, 1, 1, 0, 1, 0, 1, 1];
-/// The code points of the numbers 96 to 102 in set B.
-const FUNCTIONS_B: [u32; 7] = [0x17B, 0x17A, 0x17D, 0x106, 0x17C, 0xC0, 0x179];
-/// The switches: À, Ɓ and Ć, for the sets 0, 1 and 2 (A, B and C).
+/// The switches À, Ɓ and Ć to the sets A, B and C, which are 0, 1 and 2 here.
 pub const SWITCH: [u32; 3] = [0xC0, 0x181, 0x106];
 /// Ź, which is FNC1.
 pub const FNC1: u32 = 0x179;
 
-/// The cells of a row of n symbols.
+/// The number of cells in a row of n symbols.
 pub fn cells(n: usize) -> usize {
     11 * (n + 1) + 13
 }
 
-/// The bytes of a record of n symbols.
+/// The number of bytes in the record of a row of n symbols.
 pub fn record_bytes(n: usize) -> usize {
     2 + (11 * n + 24).div_ceil(8)
 }
 
-/// The n of a row of this length, where the limit allows one.
+/// The n of a row of this length, if there is one within the limit.
 fn symbols_of(length: usize) -> Option<usize> {
-    (1..=LIMIT).contains(&(length.saturating_sub(24) / 11)).then(|| (length - 24) / 11).filter(|&n| cells(n) == length)
+    (1..=LIMIT)
+        .contains(&(length.saturating_sub(24) / 11))
+        .then(|| (length - 24) / 11)
+        .filter(|&n| cells(n) == length)
 }
 
-/// The check: number times weight, modulo 103; START and place 1 weigh 1, place i weighs i.
+/// The check: the sum of number times weight, modulo 103. The START has weight 1, and place i has
+/// weight i.
 pub fn check(list: &[u8]) -> u8 {
-    let sum: usize = list.iter().enumerate().map(|(i, &number)| usize::from(number) * i.max(1)).sum();
+    let sum: usize = list
+        .iter()
+        .enumerate()
+        .map(|(i, &number)| usize::from(number) * i.max(1))
+        .sum();
     (sum % 103) as u8
 }
 
-/// Refusals 10 and 13 of a symbol list.
+/// Refusal 10 or 13 of a symbol list, if there is one.
 fn list_refused(list: &[u8]) -> Option<(u32, usize)> {
     if list.is_empty() || list.len() > LIMIT {
         return Some((10, list.len()));
     }
-    list.iter().enumerate().position(|(i, &number)| !may_stand(number, i)).map(|place| (13, place))
+    list.iter()
+        .enumerate()
+        .position(|(i, &number)| !allowed_at(number, i))
+        .map(|place| (13, place))
 }
 
-/// Whether a number may stand at this place: a START at 0, a number up to 102 after it.
-fn may_stand(number: u8, place: usize) -> bool {
+/// Whether a number is allowed at this place: a START at 0, a number up to 102 after it.
+fn allowed_at(number: u8, place: usize) -> bool {
     if place == 0 {
         (103..=105).contains(&number)
     } else {
@@ -79,7 +97,7 @@ fn may_stand(number: u8, place: usize) -> bool {
     }
 }
 
-/// Set A is 0, B is 1, C is 2: the set that holds after this symbol.
+/// The current set after this symbol: 0 is set A, 1 is B, 2 is C.
 fn set_after(set: usize, place: usize, number: u8) -> usize {
     match (place, number, set) {
         (0, start, _) => usize::from(start - 103),
@@ -90,7 +108,7 @@ fn set_after(set: usize, place: usize, number: u8) -> usize {
     }
 }
 
-/// The code points of a data number in a set.
+/// Adds the code points of a data number in a set.
 fn spelled(set: usize, number: u8, text: &mut Vec<u32>) {
     let value = u32::from(number);
     match (set, number) {
@@ -110,7 +128,7 @@ fn spelled(set: usize, number: u8, text: &mut Vec<u32>) {
     }
 }
 
-/// The bytes that a scanner sends for a data number in a set.
+/// Adds the bytes that a scanner sends for a data number in a set.
 fn sent(set: usize, number: u8, bytes: &mut Vec<u8>) {
     match (set, number) {
         (2, 0..=99) => bytes.extend([b'0' + number / 10, b'0' + number % 10]),
@@ -120,7 +138,7 @@ fn sent(set: usize, number: u8, bytes: &mut Vec<u8>) {
     }
 }
 
-/// The text with every Ź that stands inside a pair moved ahead of that pair. The text is one that the crate accepts.
+/// The text with every Ź inside a pair moved ahead of that pair. The crate accepts the text.
 pub fn moved(text: &[u32]) -> Vec<u32> {
     let (mut out, mut in_c, mut held) = (Vec::with_capacity(text.len()), false, None);
     for &point in text {
@@ -140,47 +158,29 @@ pub fn moved(text: &[u32]) -> Vec<u32> {
     out
 }
 
-/// The patterns, and the numbers by pattern.
+/// The patterns by number, and the numbers by pattern.
 pub struct Model {
-    patterns: Vec<[u8; 11]>,
+    patterns: [[u8; 11]; 106],
     numbers: Vec<Option<u8>>,
 }
 
-/// A text of the crate with this number in it, and the block where it stands.
-fn text_with(number: u8) -> (Vec<u32>, usize) {
-    match number {
-        0..=94 => (vec![SWITCH[1], 0x20 + u32::from(number)], 1),
-        95 => (vec![SWITCH[1], 0xF7], 1),
-        96..=102 => (vec![SWITCH[1], FUNCTIONS_B[usize::from(number - 96)]], 1),
-        _ => (vec![SWITCH[usize::from(number - 103)]], 0),
-    }
-}
-
-/// Eleven cells as a word, first cell on top; `None` if one is neither 0 nor 1.
+/// Eleven cells as a word, the first cell in the top bit; `None` if a cell is neither 0 nor 1.
 fn word(block: &[u8]) -> Option<usize> {
-    block.iter().try_fold(0, |word, &cell| (cell <= 1).then(|| 2 * word + usize::from(cell)))
-}
-
-impl Default for Model {
-    fn default() -> Model {
-        Model::new()
-    }
+    block.iter().try_fold(0, |word, &cell| {
+        (cell <= 1).then(|| 2 * word + usize::from(cell))
+    })
 }
 
 impl Model {
-    /// Draws the 106 patterns out of the crate.
-    pub fn new() -> Model {
-        let mut model = Model { patterns: Vec::new(), numbers: vec![None; 2048] };
-        for number in 0..106 {
-            let (text, block) = text_with(number);
-            let row = ask::row(&text).expect("the crate accepts the texts that show the patterns");
-            let pattern: [u8; 11] = row[11 * block..11 * block + 11].try_into().expect("eleven cells");
-            let place = word(&pattern).expect("cells are 0 or 1");
-            assert!(model.numbers[place].is_none(), "two numbers have one pattern");
-            model.numbers[place] = Some(number);
-            model.patterns.push(pattern);
+    /// The model with these patterns, in the order of their numbers.
+    pub fn new(patterns: [[u8; 11]; 106]) -> Model {
+        let mut numbers = vec![None; 2048];
+        for (number, pattern) in (0..).zip(&patterns) {
+            let place = word(pattern).expect("cells are 0 or 1");
+            assert!(numbers[place].is_none(), "two numbers have one pattern");
+            numbers[place] = Some(number);
         }
-        model
+        Model { patterns, numbers }
     }
 
     /// The pattern of a number.
@@ -188,12 +188,12 @@ impl Model {
         &self.patterns[usize::from(number)]
     }
 
-    /// The number of eleven cells.
+    /// The number whose pattern these eleven cells are, if there is one.
     pub fn number(&self, block: &[u8]) -> Option<u8> {
         word(block).and_then(|word| self.numbers[word])
     }
 
-    /// The row of these blocks, whatever they are, and the stop.
+    /// The patterns of these numbers and the stop; the numbers may be in any order.
     pub fn row(&self, blocks: &[u8]) -> Vec<u8> {
         let mut row: Vec<u8> = Vec::with_capacity(11 * blocks.len() + 13);
         for &number in blocks {
@@ -203,14 +203,14 @@ impl Model {
         row
     }
 
-    /// The row of a list that may be drawn, with its check.
+    /// The row of a symbol list: its patterns, its check and the stop.
     pub fn row_of_list(&self, list: &[u8]) -> Vec<u8> {
         let mut blocks = list.to_vec();
         blocks.push(check(list));
         self.row(&blocks)
     }
 
-    /// Draw: 10, 13, 5.
+    /// Draw, with the refusals 10, 13, 5 in this order.
     pub fn draw(&self, list: &[u8], room: usize) -> Said<u8> {
         match list_refused(list) {
             Some((number, second)) => refuse(number, second),
@@ -218,7 +218,7 @@ impl Model {
         }
     }
 
-    /// Spell: 10, 13, 5.
+    /// Spell, with the refusals 10, 13, 5 in this order.
     pub fn spell(&self, list: &[u8], room: usize) -> Said<u32> {
         if let Some((number, second)) = list_refused(list) {
             return refuse(number, second);
@@ -232,7 +232,7 @@ impl Model {
         in_room(room, text.len(), text)
     }
 
-    /// Scan: 10, 13, 5.
+    /// Scan, with the refusals 10, 13, 5 in this order.
     pub fn scan(&self, list: &[u8], room: usize) -> Said<u8> {
         if let Some((number, second)) = list_refused(list) {
             return refuse(number, second);
@@ -246,9 +246,11 @@ impl Model {
         in_room(room, bytes.len(), bytes)
     }
 
-    /// Read: 10, 11, then 12 before 13 for each block from the left, then 15, 14, 5.
+    /// Read, with the refusals 10, 11, then 12 and 13 block by block from the left, then 15, 14, 5.
     pub fn read(&self, row: &[u8], room: usize) -> Said<u8> {
-        let Some(n) = symbols_of(row.len()) else { return refuse(10, row.len()) };
+        let Some(n) = symbols_of(row.len()) else {
+            return refuse(10, row.len());
+        };
         if let Some(place) = row.iter().position(|&cell| cell > 1) {
             return refuse(11, place);
         }
@@ -256,7 +258,7 @@ impl Model {
         for (place, block) in row[..11 * (n + 1)].chunks(11).enumerate() {
             match self.number(block) {
                 None => return refuse(12, place),
-                Some(number) if !may_stand(number, place) => return refuse(13, place),
+                Some(number) if !allowed_at(number, place) => return refuse(13, place),
                 Some(number) => list.push(number),
             }
         }
@@ -271,18 +273,26 @@ impl Model {
         in_room(room, n, list)
     }
 
-    /// Pack: 10, 11, 5.
+    /// Pack, with the refusals 10, 11, 5 in this order.
     pub fn pack(&self, row: &[u8], room: usize) -> Said<u8> {
-        let Some(n) = symbols_of(row.len()) else { return refuse(10, row.len()) };
+        let Some(n) = symbols_of(row.len()) else {
+            return refuse(10, row.len());
+        };
         if let Some(place) = row.iter().position(|&cell| cell > 1) {
             return refuse(11, place);
         }
         let mut record = vec![1, n as u8];
-        record.extend(row.chunks(8).map(|eight| eight.iter().enumerate().map(|(i, &cell)| cell * (128 >> i)).sum::<u8>()));
+        record.extend(row.chunks(8).map(|eight| {
+            eight
+                .iter()
+                .enumerate()
+                .map(|(i, &cell)| cell * (128 >> i))
+                .sum::<u8>()
+        }));
         in_room(room, record.len(), record)
     }
 
-    /// Unpack: 20, 21, 22, 23, 5.
+    /// Unpack, with the refusals 20, 21, 22, 23, 5 in this order.
     pub fn unpack(&self, record: &[u8], room: usize) -> Said<u8> {
         if record.len() < 2 {
             return refuse(20, record.len());
@@ -297,7 +307,10 @@ impl Model {
         if record.len() != record_bytes(n) {
             return refuse(22, record_bytes(n));
         }
-        let mut row: Vec<u8> = record[2..].iter().flat_map(|&byte| (0..8).map(move |i| (byte >> (7 - i)) & 1)).collect();
+        let mut row: Vec<u8> = record[2..]
+            .iter()
+            .flat_map(|&byte| (0..8).map(move |i| (byte >> (7 - i)) & 1))
+            .collect();
         if row[cells(n)..].contains(&1) {
             return refuse(23, record.len() - 1);
         }

@@ -1,12 +1,15 @@
-//! A small generator of random numbers (splitmix64), so that a run is repeated by its seed.
+//! A small generator of random numbers (SplitMix64), so that the seed repeats a run.
 
 /// The state of one generator.
 pub struct Random(u64);
 
 impl Random {
-    /// One generator for each seed, part and block, so that the work does not depend on the number of threads.
+    /// The generator of a seed, a part and a block, so that the inputs do not depend on the number
+    /// of threads.
     pub fn new(seed: u64, part: &str, block: u64) -> Random {
-        let named = part.bytes().fold(0xCBF2_9CE4_8422_2325, |h: u64, b| (h ^ u64::from(b)).wrapping_mul(0x100_0000_01B3));
+        let named = part.bytes().fold(0xCBF2_9CE4_8422_2325, |h: u64, b| {
+            (h ^ u64::from(b)).wrapping_mul(0x100_0000_01B3)
+        });
         let mut random = Random(seed ^ named);
         let first = random.bits();
         random.0 = first.wrapping_add(block.wrapping_mul(0xD134_2543_DE82_EF95));
@@ -27,22 +30,23 @@ impl Random {
         ((u128::from(self.bits()) * end as u128) >> 64) as usize
     }
 
-    /// True in so many cases of a hundred.
+    /// True in `percent` of a hundred cases.
     pub fn chance(&mut self, percent: usize) -> bool {
         self.below(100) < percent
     }
 
-    /// One of a list that is not empty.
+    /// One element of a slice that is not empty.
     pub fn pick<T: Copy>(&mut self, list: &[T]) -> T {
         list[self.below(list.len())]
     }
 
-    /// A byte.
+    /// A random byte.
     pub fn byte(&mut self) -> u8 {
         self.bits() as u8
     }
 
-    /// What a lent buffer is filled with: mostly values that no job writes, now and then a value that one could write.
+    /// What a lent buffer is filled with: mostly values that no job writes, sometimes a value that
+    /// a job could write.
     pub fn mark(&mut self) -> u8 {
         self.pick(&[0xA7, 0xA7, 0x5C, 0xFF, 0x80, 0x02, 0x01, 0x00])
     }

@@ -1,4 +1,4 @@
-//! Read, and pack beside it, over rows good and damaged.
+//! Compares read and pack on rows, good and damaged.
 use crate::ask;
 use crate::check::{broken, wide, Subject, Tally, Worker};
 use crate::inputs;
@@ -7,25 +7,46 @@ use crate::random::Random;
 use crate::run::{Result, Run};
 use std::collections::HashSet;
 
-/// The rows of one and two symbols that the crate writes for some input.
+/// The rows of one and two symbols that the crate writes for some text.
 fn rows_of_crate() -> HashSet<Vec<u8>> {
     let digits = 0x30..0x3Au32;
-    let pairs = digits.clone().flat_map(|first| digits.clone().map(move |second| vec![first, second]));
-    let tails: Vec<Vec<u32>> = std::iter::once(vec![]).chain(inputs::alphabet().into_iter().map(|one| vec![one])).chain(pairs).collect();
-    let texts = SWITCH.iter().flat_map(|&start| tails.iter().map(move |tail| [&[start], &tail[..]].concat()));
-    texts.filter_map(|text| ask::row(&text)).filter(|row| row.len() <= model::cells(2)).collect()
+    let pairs = digits
+        .clone()
+        .flat_map(|first| digits.clone().map(move |second| vec![first, second]));
+    let tails: Vec<Vec<u32>> = std::iter::once(vec![])
+        .chain(inputs::alphabet().into_iter().map(|one| vec![one]))
+        .chain(pairs)
+        .collect();
+    let texts = SWITCH
+        .iter()
+        .flat_map(|&start| tails.iter().map(move |tail| [&[start], &tail[..]].concat()));
+    texts
+        .filter_map(|text| ask::row(&text))
+        .filter(|row| row.len() <= model::cells(2))
+        .collect()
 }
 
-/// Reads a row that may be accepted only if the crate writes it.
-fn read_as_written(worker: &mut Worker, written: &HashSet<Vec<u8>>, row: &[u8], n: usize) -> Result<()> {
+/// Compares read on a row, which it may accept only if the crate writes it.
+fn read_as_written(
+    worker: &mut Worker,
+    written: &HashSet<Vec<u8>>,
+    row: &[u8],
+    n: usize,
+) -> Result<()> {
     worker.tally.inputs += 1;
     if worker.read(row, n + row.len() % 2, 0xA7)? == 0 && !written.contains(row) {
-        return Err(broken(Subject::Count, wide(row), "refused: the crate writes no such row".into(), "accepted".into()));
+        return Err(broken(
+            Subject::Count,
+            wide(row),
+            "refused: the crate writes no such row".into(),
+            "accepted".into(),
+        ));
     }
     Ok(())
 }
 
-/// All rows of one and two symbols over the 106 patterns: accepted exactly those that the crate writes, 3 and 3 times 103.
+/// All rows of one and two symbols made of the 106 patterns. Read accepts exactly those that the
+/// crate writes: 3 and 3 times 103.
 pub fn all(run: &Run) -> Result<Tally> {
     let written = rows_of_crate();
     let tally = run.blocks(106, |worker, first| {
@@ -41,42 +62,68 @@ pub fn all(run: &Run) -> Result<Tally> {
     })?;
     let expected = 3 + 3 * 103;
     if tally.accepted != expected || written.len() as u64 != expected {
-        let got = format!("{} accepted, {} written by the crate", tally.accepted, written.len());
-        return Err(broken(Subject::Count, vec![], format!("{expected} accepted and written"), got));
+        let got = format!(
+            "{} accepted, {} written by the crate",
+            tally.accepted,
+            written.len()
+        );
+        return Err(broken(
+            Subject::Count,
+            vec![],
+            format!("{expected} accepted and written"),
+            got,
+        ));
     }
     Ok(tally)
 }
 
-/// Lists whose rows are damaged at every place: short ones, ones around the places 103 and 206, the longest.
+/// Lists whose rows are damaged at every place: short lists, lists that end near the places 103 and
+/// 206, the longest one.
 fn lists(run: &Run, part: &str) -> Vec<Vec<u8>> {
     let mut random = Random::new(run.seed, part, 0);
-    let lengths = [1, 1, 1, 2, 3, 5, 9, 17, 40, 103, 104, 105, 206, 207, 208, 255];
-    lengths.iter().map(|&n| inputs::list(&mut random, n)).collect()
+    let lengths = [
+        1, 1, 1, 2, 3, 5, 9, 17, 40, 103, 104, 105, 206, 207, 208, 255,
+    ];
+    lengths
+        .iter()
+        .map(|&n| inputs::list(&mut random, n))
+        .collect()
 }
 
-/// Every pair of a list's index and a block of its row, the check's block with them.
+/// Every pair of the index of a list and a block of its row, the check included.
 fn list_blocks(lists: &[Vec<u8>]) -> Vec<(usize, usize)> {
-    lists.iter().enumerate().flat_map(|(index, list)| (0..=list.len()).map(move |block| (index, block))).collect()
+    lists
+        .iter()
+        .enumerate()
+        .flat_map(|(index, list)| (0..=list.len()).map(move |block| (index, block)))
+        .collect()
 }
 
-/// One symbol replaced: refused, but for a data symbol at place 103 or 206 by another number up to 102.
+/// One symbol replaced at this place by every number. Read refuses, except for a data symbol at
+/// place 103 or 206 that is replaced by a number up to 102.
 fn replaced_at(worker: &mut Worker, list: &[u8], block: usize) -> Result<()> {
     let good = worker.model.row_of_list(list);
     for number in 0..106 {
         let mut row = good.clone();
         row[11 * block..11 * block + 11].copy_from_slice(worker.model.pattern(number));
-        let allowed = row == good || (block < list.len() && matches!(block, 103 | 206) && number <= 102);
+        let allowed =
+            row == good || (block < list.len() && matches!(block, 103 | 206) && number <= 102);
         worker.tally.inputs += 1;
         let accepted = worker.read(&row, list.len(), 0xA7)? == 0;
         if accepted != allowed {
             let expected = format!("block {block} replaced by {number}: accepted is {allowed}");
-            return Err(broken(Subject::Count, wide(&row), expected, format!("accepted is {accepted}")));
+            return Err(broken(
+                Subject::Count,
+                wide(&row),
+                expected,
+                format!("accepted is {accepted}"),
+            ));
         }
     }
     Ok(())
 }
 
-/// One symbol replaced at every place by every other.
+/// One symbol replaced at every place by every number.
 pub fn replaced(run: &Run) -> Result<Tally> {
     let lists = lists(run, "read-replaced");
     let places = list_blocks(&lists);
@@ -86,19 +133,23 @@ pub fn replaced(run: &Run) -> Result<Tally> {
     })
 }
 
-/// One cell flipped, or set to something that is no cell, at every place.
+/// One cell changed at every place: flipped, or set to a value that is neither 0 nor 1.
 pub fn cells(run: &Run) -> Result<Tally> {
     let lists = lists(run, "read-cells");
     let places = list_blocks(&lists);
     run.blocks(places.len() as u64, |worker, number| {
         let (index, block) = places[number as usize];
         let good = worker.model.row_of_list(&lists[index]);
-        let end = if block == lists[index].len() { good.len() } else { 11 * block + 11 };
+        let end = if block == lists[index].len() {
+            good.len()
+        } else {
+            11 * block + 11
+        };
         (11 * block..end).try_for_each(|place| spoiled_at(worker, &good, place))
     })
 }
 
-/// One cell flipped and set to other values; read and pack.
+/// Compares read and pack with one cell flipped or set to another value.
 fn spoiled_at(worker: &mut Worker, good: &[u8], place: usize) -> Result<()> {
     let mut row = good.to_vec();
     for cell in [1 - good[place], 2, 3, 128, 255] {
@@ -110,7 +161,7 @@ fn spoiled_at(worker: &mut Worker, good: &[u8], place: usize) -> Result<()> {
     Ok(())
 }
 
-/// Random rows with up to four damages at once.
+/// Random rows, damaged in up to four places.
 pub fn random(run: &Run) -> Result<Tally> {
     run.random_blocks("read-random", run.random / 10, |worker, random| {
         let n = inputs::length(random);
@@ -120,18 +171,26 @@ pub fn random(run: &Run) -> Result<Tally> {
         }
         worker.tally.inputs += 1;
         worker.read(&row, inputs::room(random, n), random.mark())?;
-        worker.pack(&row, inputs::room(random, model::record_bytes(n)), random.mark())?;
+        worker.pack(
+            &row,
+            inputs::room(random, model::record_bytes(n)),
+            random.mark(),
+        )?;
         worker.row_law(&row)
     })
 }
 
-/// Lengths of rows: every one up to 2,900, and some where a length kept in few bits would come round.
+/// Lengths of rows: every length up to 2,900, and some that would overflow 8 or 16 bits.
 fn row_lengths() -> Vec<usize> {
     let round = [256, 257, 511, 512, 65_536, 65_537].map(model::cells);
-    (0..=2900).chain(round).chain([4096, 65_535, 65_536, 65_536 + 35, 70_000]).collect()
+    (0..=2900)
+        .chain(round)
+        .chain([4096, 65_535, 65_536, 65_536 + 35, 70_000])
+        .collect()
 }
 
-/// Rows of every length: the beginning of a long good row, of zeros, of ones, of a good row with more behind it.
+/// Rows of every length: zeros, ones, the cells of a long good row over and over, and these with a
+/// stop at the end.
 pub fn lengths(run: &Run) -> Result<Tally> {
     let lengths = row_lengths();
     run.blocks(lengths.len() as u64, |worker, block| {
@@ -144,7 +203,12 @@ pub fn lengths(run: &Run) -> Result<Tally> {
         let keep = length.saturating_sub(13);
         stopped.truncate(keep);
         stopped.extend(&end[11..]);
-        for row in [vec![0; length], vec![1; length], good.iter().copied().cycle().take(length).collect(), stopped] {
+        for row in [
+            vec![0; length],
+            vec![1; length],
+            good.iter().copied().cycle().take(length).collect(),
+            stopped,
+        ] {
             worker.tally.inputs += 1;
             worker.read(&row, inputs::room(&mut random, LIMIT), random.mark())?;
             worker.pack(&row, inputs::room(&mut random, 356), random.mark())?;
@@ -153,8 +217,9 @@ pub fn lengths(run: &Run) -> Result<Tally> {
     })
 }
 
-/// Every n and every job with every buffer length close to what is needed: a list of any numbers, and one in each set alone, so that
-/// spell and scan need what they need at most (509 and 508 at n = 255) and at least.
+/// Every n and every job with buffer lengths close to the one that is needed: a list of any
+/// numbers, and a list in each set alone, so that spell and scan write the most (509 and 508
+/// elements if n is 255) and the least.
 pub fn rooms(run: &Run) -> Result<Tally> {
     run.blocks(LIMIT as u64, |worker, block| {
         let mut random = Random::new(run.seed, "rooms", block);
@@ -168,7 +233,7 @@ pub fn rooms(run: &Run) -> Result<Tally> {
     })
 }
 
-/// Buffer lengths to try: all up to what is needed for short ones, those close to it for long ones.
+/// The buffer lengths to try: all of them if a short buffer is needed, otherwise those close to it.
 fn rooms_for(need: usize) -> Vec<usize> {
     if need <= 100 {
         return (0..=need + 3).collect();
@@ -176,11 +241,14 @@ fn rooms_for(need: usize) -> Vec<usize> {
     inputs::near(need)
 }
 
-/// The seven jobs for one list, its row, its spelling and its record.
+/// Compares the seven jobs on one list, its row, its spelling and its record.
 fn rooms_of(worker: &mut Worker, random: &mut Random, list: &[u8]) -> Result<()> {
     let model: &Model = worker.model;
     let row = model.row_of_list(list);
-    let (text, sent) = (model.spell(list, usize::MAX).front, model.scan(list, usize::MAX).front);
+    let (text, sent) = (
+        model.spell(list, usize::MAX).front,
+        model.scan(list, usize::MAX).front,
+    );
     let record = model.pack(&row, usize::MAX).front;
     worker.tally.inputs += 1;
     let said = ask::ask(&text);
@@ -189,10 +257,18 @@ fn rooms_of(worker: &mut Worker, random: &mut Random, list: &[u8]) -> Result<()>
         worker.draw(list, room, random.mark())?;
         worker.unpack(&record, room, random.mark())?;
     }
-    rooms_for(list.len()).into_iter().try_for_each(|room| worker.read(&row, room, random.mark()).map(drop))?;
-    rooms_for(text.len()).into_iter().try_for_each(|room| worker.spell(list, room, random.mark()).map(drop))?;
-    rooms_for(sent.len()).into_iter().try_for_each(|room| worker.scan(list, room, random.mark()).map(drop))?;
-    rooms_for(record.len()).into_iter().try_for_each(|room| worker.pack(&row, room, random.mark()).map(drop))?;
+    rooms_for(list.len())
+        .into_iter()
+        .try_for_each(|room| worker.read(&row, room, random.mark()).map(drop))?;
+    rooms_for(text.len())
+        .into_iter()
+        .try_for_each(|room| worker.spell(list, room, random.mark()).map(drop))?;
+    rooms_for(sent.len())
+        .into_iter()
+        .try_for_each(|room| worker.scan(list, room, random.mark()).map(drop))?;
+    rooms_for(record.len())
+        .into_iter()
+        .try_for_each(|room| worker.pack(&row, room, random.mark()).map(drop))?;
     worker.list_law(list)?;
     worker.text_law(&text)?;
     worker.row_law(&row)?;

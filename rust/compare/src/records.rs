@@ -1,17 +1,22 @@
-//! Pack and unpack over rows and records, good and spoiled.
+//! Compares pack and unpack on rows and records, good and damaged.
 use crate::check::{Tally, Worker};
 use crate::inputs;
 use crate::model::{self, record_bytes, LIMIT};
 use crate::random::Random;
 use crate::run::{Result, Run};
 
-/// Every n: a readable row and random cells, packed and unpacked; the record cut, lengthened and spoiled.
+/// For every n: a readable row, random cells and bars only are packed and unpacked; then the record
+/// is cut, made longer and damaged.
 pub fn all(run: &Run) -> Result<Tally> {
     run.blocks(LIMIT as u64, |worker, block| {
         let mut random = Random::new(run.seed, "records-all", block);
         let n = block as usize + 1;
         let readable = worker.model.row_of_list(&inputs::list(&mut random, n));
-        for row in [readable, inputs::cells(&mut random, n), vec![1; model::cells(n)]] {
+        for row in [
+            readable,
+            inputs::cells(&mut random, n),
+            vec![1; model::cells(n)],
+        ] {
             let record = worker.model.pack(&row, usize::MAX).front;
             close(worker, &mut random, &row, &record)?;
             cut(worker, &record)?;
@@ -22,7 +27,8 @@ pub fn all(run: &Run) -> Result<Tally> {
     })
 }
 
-/// Pack and unpack with every buffer length close to what is needed, and back.
+/// Compares pack and unpack with buffer lengths close to the one that is needed; and tests that
+/// each undoes the other.
 fn close(worker: &mut Worker, random: &mut Random, row: &[u8], record: &[u8]) -> Result<()> {
     worker.tally.inputs += 2;
     for room in inputs::near(record.len()) {
@@ -35,7 +41,7 @@ fn close(worker: &mut Worker, random: &mut Random, row: &[u8], record: &[u8]) ->
     worker.record_law(record)
 }
 
-/// The record cut at every length, and with bytes behind it.
+/// Compares unpack on the record cut at every length, and with more bytes after it.
 fn cut(worker: &mut Worker, record: &[u8]) -> Result<()> {
     for length in 0..record.len() {
         worker.tally.inputs += 1;
@@ -49,7 +55,7 @@ fn cut(worker: &mut Worker, record: &[u8]) -> Result<()> {
     Ok(())
 }
 
-/// Each byte spoiled.
+/// Compares unpack on the record with each byte changed.
 fn spoiled(worker: &mut Worker, random: &mut Random, record: &[u8]) -> Result<()> {
     let mut spoiled = record.to_vec();
     for place in 0..record.len() {
@@ -63,7 +69,8 @@ fn spoiled(worker: &mut Worker, random: &mut Random, record: &[u8]) -> Result<()
     Ok(())
 }
 
-/// Every value of the last byte, so every setting of the spare bits.
+/// Compares unpack on the record with every value of the last byte, so with every value of the
+/// spare bits.
 fn last_bytes(worker: &mut Worker, record: &[u8]) -> Result<()> {
     let mut other = record.to_vec();
     let last = record.len() - 1;
@@ -75,7 +82,8 @@ fn last_bytes(worker: &mut Worker, record: &[u8]) -> Result<()> {
     Ok(())
 }
 
-/// All version and count bytes, with the right length for the count, one byte less, one more, and the two bytes alone.
+/// Every version byte with every count byte: in a record of the right length for the count, one
+/// byte shorter, one byte longer, and of these two bytes alone.
 pub fn heads(run: &Run) -> Result<Tally> {
     run.blocks(256, |worker, version| {
         for count in 0..=255u8 {
@@ -91,12 +99,23 @@ pub fn heads(run: &Run) -> Result<Tally> {
     })
 }
 
-/// Records of every length up to 400 with several heads.
+/// Records of every length up to 400, with several versions and counts.
 pub fn lengths(run: &Run) -> Result<Tally> {
     run.blocks(401, |worker, length| {
         let mut random = Random::new(run.seed, "record-lengths", length);
-        for head in [[1, 255], [1, 0], [1, 1], [0, 1], [1, random.byte()], [2, 0], [255, 255]] {
-            let mut record: Vec<u8> = head.into_iter().chain((2..length.max(2)).map(|_| random.byte())).collect();
+        for head in [
+            [1, 255],
+            [1, 0],
+            [1, 1],
+            [0, 1],
+            [1, random.byte()],
+            [2, 0],
+            [255, 255],
+        ] {
+            let mut record: Vec<u8> = head
+                .into_iter()
+                .chain((2..length.max(2)).map(|_| random.byte()))
+                .collect();
             record.truncate(length as usize);
             worker.tally.inputs += 1;
             worker.unpack(&record, inputs::room(&mut random, 2829), random.mark())?;
@@ -106,7 +125,7 @@ pub fn lengths(run: &Run) -> Result<Tally> {
     })
 }
 
-/// Random records: of random cells, mostly with the right length, some bytes spoiled.
+/// Random records: random cells, mostly of the right length, some bytes changed.
 pub fn random(run: &Run) -> Result<Tally> {
     run.random_blocks("records-random", run.random / 20, |worker, random| {
         let n = inputs::length(random);
@@ -123,7 +142,7 @@ pub fn random(run: &Run) -> Result<Tally> {
     })
 }
 
-/// One damage of a record: a byte, the last byte, the head or the length.
+/// Damages a record in one place: a byte, the last byte, the version or the count, or the length.
 fn damage(random: &mut Random, record: &mut Vec<u8>) {
     if record.is_empty() {
         return;

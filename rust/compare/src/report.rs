@@ -3,12 +3,18 @@ use crate::ask::MOST_DRAWN;
 use crate::check::{Fault, Subject, Tally, SUBJECTS};
 use crate::listed::LIST;
 
-/// One part: how many inputs and calls, accepted and refused by each number, and the laws that held.
+/// The line of one part: how many inputs and calls, how many of these were accepted and refused by
+/// each number, and how many laws held.
 pub fn part_line(name: &str, tally: &Tally, seed: u64, seconds: f64) -> String {
     let mut line = format!("{name}: {} inputs", tally.inputs);
     if tally.calls() > 0 {
         line += &format!(", {} calls: accepted {}", tally.calls(), tally.accepted);
-        for (number, count) in tally.refused.iter().enumerate().filter(|(_, &count)| count > 0) {
+        for (number, count) in tally
+            .refused
+            .iter()
+            .enumerate()
+            .filter(|(_, &count)| count > 0)
+        {
             line += &format!(", {number}: {count}");
         }
     }
@@ -21,52 +27,116 @@ pub fn part_line(name: &str, tally: &Tally, seed: u64, seconds: f64) -> String {
     line + &format!(" (seed {seed}, {seconds:.1} s)")
 }
 
-/// How many calls of encode fell under each row of the list.
+/// How many calls of encode belong to each row of the list.
 pub fn listed_line(tally: &Tally) -> String {
-    let rows: Vec<String> = LIST.iter().map(|&(listed, name)| format!("{name}: {}", tally.listed[listed as usize])).collect();
-    format!("calls of encode under each row of docs/DIFFERENCES.md: {}", rows.join("; "))
+    let rows: Vec<String> = LIST
+        .iter()
+        .map(|&(listed, name)| format!("{name}: {}", tally.listed[listed as usize]))
+        .collect();
+    format!(
+        "calls of encode under each row of docs/DIFFERENCES.md: {}",
+        rows.join("; ")
+    )
 }
 
-/// How many texts went through the type with the crate's signatures, and how many the crate did not draw.
+/// How many texts the type with the crate's signatures encoded, and how many rows the crate did not
+/// draw.
 pub fn others_line(tally: &Tally) -> String {
-    let undrawn = format!("accepted texts of more than {MOST_DRAWN} code points, their symbols counted and not drawn by the crate: {}", tally.undrawn);
-    format!("texts by the type with the crate's signatures: {}; {undrawn}", tally.drop_in)
+    let undrawn = format!(
+        "accepted texts of more than {MOST_DRAWN} code points, their symbols counted and not drawn \
+         by the crate: {}",
+        tally.undrawn
+    );
+    format!(
+        "texts by the type with the crate's signatures: {}; {undrawn}",
+        tally.drop_in
+    )
 }
 
 /// The last line of a run.
 pub fn total_line(encode: u64, rest: u64, seed: u64, seconds: f64) -> String {
-    format!("compare: {encode} inputs for encode, {rest} for the rest, no difference that is not listed (seed {seed}, {seconds:.0} s)")
+    format!(
+        "compare: {encode} inputs for encode, {rest} for the rest, no difference that is not \
+         listed (seed {seed}, {seconds:.0} s)"
+    )
 }
 
 /// The word that `--case` takes for a fault.
 pub fn case_word(fault: &Fault) -> Option<String> {
-    let &(name, _) = SUBJECTS.iter().find(|(_, subject)| *subject == fault.subject)?;
-    let input: Vec<String> = fault.input.iter().map(|element| format!("{element:X}")).collect();
-    Some(format!("{name}:{}:{:X}:{}", fault.room, fault.mark, input.join(",")))
+    let &(name, _) = SUBJECTS
+        .iter()
+        .find(|(_, subject)| *subject == fault.subject)?;
+    let input: Vec<String> = fault
+        .input
+        .iter()
+        .map(|element| format!("{element:X}"))
+        .collect();
+    Some(format!(
+        "{name}:{}:{:X}:{}",
+        fault.room,
+        fault.mark,
+        input.join(",")
+    ))
 }
 
-/// Reads what `case_word` wrote.
+/// Reads a word that `case_word` made.
 pub fn case_of(word: &str) -> Option<(Subject, Vec<u32>, usize, u8)> {
     let parts: Vec<&str> = word.split(':').collect();
-    let [name, room, mark, input] = parts[..] else { return None };
+    let [name, room, mark, input] = parts[..] else {
+        return None;
+    };
     let &(_, subject) = SUBJECTS.iter().find(|(known, _)| *known == name)?;
-    let elements = input.split(',').filter(|element| !element.is_empty()).map(|element| u32::from_str_radix(element, 16).ok());
-    Some((subject, elements.collect::<Option<Vec<u32>>>()?, room.parse().ok()?, u8::from_str_radix(mark, 16).ok()?))
+    let elements = input
+        .split(',')
+        .filter(|element| !element.is_empty())
+        .map(|element| u32::from_str_radix(element, 16).ok());
+    Some((
+        subject,
+        elements.collect::<Option<Vec<u32>>>()?,
+        room.parse().ok()?,
+        u8::from_str_radix(mark, 16).ok()?,
+    ))
 }
 
-/// A difference in full: the part, the small input, both answers, and how to see it again.
-pub fn fault_lines(part: &str, fault: &Fault, met: &Fault, wrong: &str, seed: u64, random: u64) -> String {
-    let mut lines = format!("DIFFERENCE in part {part}, subject {:?}, not listed\n", fault.subject);
+/// A difference in full: the part, the small input, both answers, and the commands that show it
+/// again.
+pub fn fault_lines(
+    part: &str,
+    fault: &Fault,
+    met: &Fault,
+    wrong: &str,
+    seed: u64,
+    random: u64,
+) -> String {
+    let mut lines = format!(
+        "DIFFERENCE in part {part}, subject {:?}, not listed\n",
+        fault.subject
+    );
     let count = fault.input.len();
-    lines += &format!("input:    {:X?} (hex; {count} elements), buffer of {} filled with {:X}\n", fault.input, fault.room, fault.mark);
+    lines += &format!(
+        "input:    {:X?} (hex; {count} elements), buffer of {} filled with {:X}\n",
+        fault.input, fault.room, fault.mark
+    );
     lines += &format!("expected: {}\nhere:     {}\n", fault.expected, fault.got);
     lines += &match fault.subject {
-        Subject::Count => "not made smaller: the claim is one of the whole part, and this is the input that it was met with\n".into(),
-        _ => format!("first met with {} elements: {:X?}, buffer of {} filled with {:X}\n", met.input.len(), met.input, met.room, met.mark),
+        Subject::Count => "not made smaller: the claim is about the whole part, and this is the \
+                           input for which it failed\n"
+            .into(),
+        _ => format!(
+            "first found with {} elements: {:X?}, buffer of {} filled with {:X}\n",
+            met.input.len(),
+            met.input,
+            met.room,
+            met.mark
+        ),
     };
     lines += &format!("seed:     {seed}\n");
     if let Some(word) = case_word(fault) {
         lines += &format!("command:  cargo run --release -p compare --{wrong} --case {word}\n");
     }
-    lines + &format!("command of the part: cargo run --release -p compare --{wrong} --seed {seed} --random {random} {part}")
+    lines
+        + &format!(
+            "command of the part: cargo run --release -p compare --{wrong} --seed {seed} \
+             --random {random} {part}"
+        )
 }

@@ -1,5 +1,6 @@
-//! The labels of document 01 against the crate, the model and the face; the list of differences; the words of a case.
-use compare::ask::{ask, place_by_halving, place_from_left, Crate, Tries};
+//! The labels of document 01 in the crate, the model and the library; the list of differences; the
+//! word of a case.
+use compare::ask::{ask, patterns, place_by_halving, place_from_left, Crate, Tries};
 use compare::check::{Fault, Subject, Worker};
 use compare::face::True;
 use compare::listed::LIST;
@@ -11,10 +12,10 @@ fn points(text: &str) -> Vec<u32> {
     text.chars().map(u32::from).collect()
 }
 
-/// The symbols and the check that document 01 names, from the crate's row, in the model.
+/// The symbols and the checks in document 01 are those of the crate's row and of the model.
 #[test]
 fn labels_that_are_accepted() {
-    let model = Model::new();
+    let model = Model::new(patterns());
     let labels: [(&str, &[u8], u8); 8] = [
         ("À", &[103], 0),
         ("Ć12", &[105, 12], 14),
@@ -26,33 +27,56 @@ fn labels_that_are_accepted() {
         ("Ć99", &[105, 99], 101),
     ];
     for (text, list, right) in labels {
-        assert_eq!(ask(&points(text)), Crate::Row(model.row_of_list(list)), "{text}");
+        assert_eq!(
+            ask(&points(text)),
+            Crate::Row(model.row_of_list(list)),
+            "{text}"
+        );
         assert_eq!(check(list), right, "{text}");
         assert_eq!(model.spell(list, 600).front, moved(&points(text)), "{text}");
         let mut worker = Worker::new(&True, &model);
-        assert_eq!(worker.encode(&points(text), 2829, 0xA7).expect("no difference"), 0, "{text}");
+        assert_eq!(
+            worker
+                .encode(&points(text), 2829, 0xA7)
+                .expect("no difference"),
+            0,
+            "{text}"
+        );
         worker.text_law(&points(text)).expect("no difference");
         worker.list_law(list).expect("no difference");
     }
 }
 
-/// The places of refusal 3 that document 01 names, from the crate alone.
+/// The places of refusal 3 in document 01 are found from the crate alone.
 #[test]
 fn places_of_refusal_3() {
     let long = format!("Ɓ{}€", "A".repeat(300));
-    for (text, place) in [("€", 0), ("Ć1", 2), ("Ć1À", 2), ("ÀÀ", 1), ("ÀŽa", 2), ("Ɓ\u{7F}", 1), (&long, 301), ("Ć1ŹŹ", 4), ("ĆĆ", 1)]
-    {
+    for (text, place) in [
+        ("€", 0),
+        ("Ć1", 2),
+        ("Ć1À", 2),
+        ("ÀÀ", 1),
+        ("ÀŽa", 2),
+        ("Ɓ\u{7F}", 1),
+        (&long, 301),
+        ("Ć1ŹŹ", 4),
+        ("ĆĆ", 1),
+    ] {
         let points = points(text);
         assert_eq!(ask(&points), Crate::Character, "{text}");
         assert_eq!(place_by_halving(&points), place, "{text}");
-        assert_eq!(place_from_left(&points, Tries::Many).unwrap_or(points.len()), place, "{text}");
+        assert_eq!(
+            place_from_left(&points, Tries::Many).unwrap_or(points.len()),
+            place,
+            "{text}"
+        );
     }
 }
 
-/// The rule of the patterns, as document 01 writes it, for what was drawn out of the crate.
+/// The crate's patterns follow the rule in document 01.
 #[test]
 fn patterns_follow_their_rule() {
-    let model = Model::new();
+    let model = Model::new(patterns());
     for number in 0..106 {
         let pattern = model.pattern(number);
         let changes = pattern.windows(2).filter(|two| two[0] != two[1]).count();
@@ -63,21 +87,36 @@ fn patterns_follow_their_rule() {
     }
 }
 
-/// Every name of the list is a row of docs/DIFFERENCES.md, and stands at its own place in the table.
+/// Every name of the list is a row of docs/DIFFERENCES.md, and the list leaves out no row.
 #[test]
 fn the_list_is_the_one_in_the_docs() {
     let path = concat!(env!("CARGO_MANIFEST_DIR"), "/../../docs/DIFFERENCES.md");
     let whole = std::fs::read_to_string(path).expect("docs/DIFFERENCES.md");
-    let page = whole.split("\n## ").next().expect("the table stands before the first heading");
+    let page = whole
+        .split("\n## ")
+        .next()
+        .expect("the table before the first heading");
     for (place, (listed, name)) in LIST.into_iter().enumerate() {
         assert_eq!(listed as usize, place);
-        assert!(page.lines().any(|line| line.starts_with(&format!("| {name} |"))), "{name}");
+        assert!(
+            page.lines()
+                .any(|line| line.starts_with(&format!("| {name} |"))),
+            "{name}"
+        );
     }
-    let rows = page.lines().filter(|line| line.starts_with("| ") && !line.starts_with("| Difference ")).count();
-    assert_eq!(rows, LIST.len(), "a row of docs/DIFFERENCES.md is not counted here");
+    let rows = page
+        .lines()
+        .filter(|line| line.starts_with("| ") && !line.starts_with("| Difference "))
+        .count();
+    assert_eq!(
+        rows,
+        LIST.len(),
+        "a row of docs/DIFFERENCES.md is not counted here"
+    );
 }
 
-/// The symbols of a text that is too long for the crate to draw are counted as those of a shorter one are.
+/// The symbols of a text that is too long for the crate to draw are counted as those of a shorter
+/// text.
 #[test]
 fn symbols_of_long_texts() {
     for pairs in [2999, 3000, 5000] {
@@ -86,12 +125,22 @@ fn symbols_of_long_texts() {
     }
 }
 
-/// A case is read back as it was written.
+/// The word of a case is read back as it was written.
 #[test]
 fn the_word_of_a_case() {
     for input in [vec![], vec![0x106, 0x31, 0xFFFF_FFFF]] {
-        let fault = Fault { subject: Subject::Encode, input: input.clone(), room: 35, mark: 0xA7, expected: String::new(), got: String::new() };
-        assert_eq!(case_of(&case_word(&fault).expect("a word")), Some((Subject::Encode, input, 35, 0xA7)));
+        let fault = Fault {
+            subject: Subject::Encode,
+            input: input.clone(),
+            room: 35,
+            mark: 0xA7,
+            expected: String::new(),
+            got: String::new(),
+        };
+        assert_eq!(
+            case_of(&case_word(&fault).expect("a word")),
+            Some((Subject::Encode, input, 35, 0xA7))
+        );
     }
     assert_eq!(case_of("encode:35:A7"), None);
 }

@@ -1,4 +1,6 @@
-//! A run must stop at a wrong answer and make its input small: wrong answers are planted and looked for.
+//! A run must stop at a wrong answer and make its input small. Wrong answers are planted here, and
+//! the runs must find them.
+use compare::ask;
 use compare::check::{Fault, Subject, Tally};
 use compare::face::{Face, Plant, True, Wrong};
 use compare::model::Model;
@@ -6,19 +8,34 @@ use compare::run::Run;
 use compare::{report, unmet, PARTS};
 use std::process::Command;
 
-/// Does one part with few random inputs; the small difference where there is one.
+/// Does one part with few random inputs; returns the difference, made small, if there is one.
 fn part_of(face: &dyn Face, name: &str, seed: u64, threads: usize) -> Result<String, Box<Fault>> {
-    let model = Model::new();
-    let run = Run { face, model: &model, seed, random: 4000, threads };
-    let part = PARTS.iter().find(|part| part.name == name).expect("a part of this name");
+    let model = Model::new(ask::patterns());
+    let run = Run {
+        face,
+        model: &model,
+        seed,
+        random: 4000,
+        threads,
+    };
+    let part = PARTS
+        .iter()
+        .find(|part| part.name == name)
+        .expect("a part of this name");
     let tally = compare::compare(part, &run).map_err(|faults| Box::new(faults.1))?;
     Ok(format!("{tally:?}"))
 }
 
-/// The small difference that a part finds in a face with this plant.
+/// The difference, made small, that a part finds in the library with this wrong answer.
 fn found(plant: Plant, part: &str) -> (Subject, Vec<u32>, usize, String, String) {
     let fault = part_of(&Wrong::new(plant), part, 1, 2).expect_err("the planted answer is found");
-    (fault.subject, fault.input, fault.room, fault.expected, fault.got)
+    (
+        fault.subject,
+        fault.input,
+        fault.room,
+        fault.expected,
+        fault.got,
+    )
 }
 
 #[test]
@@ -38,21 +55,37 @@ fn a_wrong_place_in_random_texts() {
 #[test]
 fn a_wrong_weight_in_the_check() {
     let (subject, input, room, expected, got) = found(Plant::Weight, "encode-random");
-    assert!(subject == Subject::Encode && input.len() <= 3 && room == 46, "{input:X?}");
-    assert!(expected.starts_with("0 2, buffer [1, ") && got.starts_with("0 2, buffer [1, ") && expected != got);
+    assert!(
+        subject == Subject::Encode && input.len() <= 3 && room == 46,
+        "{input:X?}"
+    );
+    assert!(
+        expected.starts_with("0 2, buffer [1, ")
+            && got.starts_with("0 2, buffer [1, ")
+            && expected != got
+    );
 }
 
 #[test]
 fn a_buffer_touched_by_a_refusal() {
     let (subject, input, room, expected, got) = found(Plant::Touched, "encode-all");
     assert_eq!((subject, input, room), (Subject::Encode, vec![], 1));
-    assert_eq!((expected.as_str(), got.as_str()), ("2 0, the 1 elements of the buffer as lent", "2 0, buffer [166]"));
+    assert_eq!(
+        (expected.as_str(), got.as_str()),
+        (
+            "2 0, the 1 elements of the buffer as lent",
+            "2 0, buffer [166]"
+        )
+    );
 }
 
 #[test]
 fn a_wrong_count() {
     let (subject, input, room, expected, got) = found(Plant::Count, "encode-random");
-    assert!(subject == Subject::Encode && input.len() <= 17 && room == 11 * 10 + 13, "{input:X?}");
+    assert!(
+        subject == Subject::Encode && input.len() <= 17 && room == 11 * 10 + 13,
+        "{input:X?}"
+    );
     assert!(expected.starts_with("0 9, ") && got.starts_with("0 10, "));
 }
 
@@ -67,20 +100,26 @@ fn a_replaced_symbol_that_is_accepted() {
 #[test]
 fn a_held_digit_that_is_refused() {
     let (subject, input, ..) = found(Plant::Held, "encode-random");
-    assert_eq!((subject, input), (Subject::Encode, vec![0x106, 0x30, 0x179, 0x30]));
+    assert_eq!(
+        (subject, input),
+        (Subject::Encode, vec![0x106, 0x30, 0x179, 0x30])
+    );
     assert_eq!(found(Plant::Held, "encode-moved").0, Subject::TextLaw);
 }
 
 #[test]
-fn a_cell_written_behind_the_row() {
-    let (subject, input, room, ..) = found(Plant::Behind, "lists-random");
+fn a_cell_written_after_the_row() {
+    let (subject, input, room, ..) = found(Plant::After, "lists-random");
     assert_eq!((subject, input, room), (Subject::Draw, vec![103], 36));
 }
 
 #[test]
-fn spare_bits_that_are_not_looked_at() {
+fn spare_bits_that_are_not_tested() {
     let (subject, input, ..) = found(Plant::Spare, "records-random");
-    assert_eq!((subject, input), (Subject::Unpack, vec![1, 1, 0, 0, 0, 0, 1]));
+    assert_eq!(
+        (subject, input),
+        (Subject::Unpack, vec![1, 1, 0, 0, 0, 0, 1])
+    );
 }
 
 #[test]
@@ -102,91 +141,146 @@ fn a_room_that_is_enough_and_refused() {
 }
 
 #[test]
-fn a_check_told_before_the_stop() {
+fn a_check_answered_before_the_stop() {
     let (subject, input, _, expected, got) = found(Plant::CheckFirst, "read-random");
     assert_eq!((subject, input.len()), (Subject::Read, 35));
-    assert!(expected.starts_with("15 ") && got.starts_with("14 "), "{expected} and {got}");
+    assert!(
+        expected.starts_with("15 ") && got.starts_with("14 "),
+        "{expected} and {got}"
+    );
 }
 
 #[test]
-fn a_length_told_before_the_version() {
+fn a_length_answered_before_the_version() {
     let (subject, input, _, expected, got) = found(Plant::VersionLast, "records-random");
     assert_eq!((subject, input), (Subject::Unpack, vec![0, 0]));
-    assert!(expected.starts_with("21 0, ") && got.starts_with("22 0, "), "{expected} and {got}");
+    assert!(
+        expected.starts_with("21 0, ") && got.starts_with("22 0, "),
+        "{expected} and {got}"
+    );
 }
 
 #[test]
 fn a_room_asked_before_the_list() {
     let (subject, input, room, expected, got) = found(Plant::RoomFirst, "lists-random");
     assert_eq!((subject, input, room), (Subject::Draw, vec![0], 0));
-    assert!(expected.starts_with("13 0, ") && got.starts_with("5 35, "), "{expected} and {got}");
+    assert!(
+        expected.starts_with("13 0, ") && got.starts_with("5 35, "),
+        "{expected} and {got}"
+    );
 }
 
 #[test]
-fn a_character_told_before_a_value_that_is_no_scalar() {
+fn a_character_answered_before_a_value_that_is_not_a_scalar() {
     let (subject, input, _, expected, got) = found(Plant::CharacterFirst, "encode-random");
     assert_eq!((subject, input), (Subject::Encode, vec![0, 0, 0x11_0000]));
-    assert!(expected.starts_with("1 2, ") && got.starts_with("3 0, "), "{expected} and {got}");
+    assert!(
+        expected.starts_with("1 2, ") && got.starts_with("3 0, "),
+        "{expected} and {got}"
+    );
 }
 
 #[test]
 fn a_wrong_place_of_refusal_1() {
     let (subject, input, _, expected, got) = found(Plant::LastScalar, "encode-all");
     assert_eq!((subject, input), (Subject::Encode, vec![0xD800, 0xD800]));
-    assert!(expected.starts_with("1 0, ") && got.starts_with("1 1, "), "{expected} and {got}");
+    assert!(
+        expected.starts_with("1 0, ") && got.starts_with("1 1, "),
+        "{expected} and {got}"
+    );
 }
 
 #[test]
 fn a_wrong_number_of_symbols_needed() {
-    let fault = part_of(&Wrong::new(Plant::Needed), "encode-random", 2, 2).expect_err("the planted answer is found");
-    assert_eq!((fault.subject, &fault.input[1..]), (Subject::Encode, &[0; 256][..]));
-    assert!(fault.expected.starts_with("4 257, ") && fault.got.starts_with("4 256, "), "{} and {}", fault.expected, fault.got);
+    let fault = part_of(&Wrong::new(Plant::Needed), "encode-random", 2, 2)
+        .expect_err("the planted answer is found");
+    assert_eq!(
+        (fault.subject, &fault.input[1..]),
+        (Subject::Encode, &[0; 256][..])
+    );
+    assert!(
+        fault.expected.starts_with("4 257, ") && fault.got.starts_with("4 256, "),
+        "{} and {}",
+        fault.expected,
+        fault.got
+    );
 }
 
 #[test]
 fn a_wrong_number_of_bytes_packed() {
     let (subject, input, room, expected, got) = found(Plant::Packed, "read-random");
     assert_eq!((subject, input.len(), room), (Subject::Pack, 35, 7));
-    assert!(expected.starts_with("0 7, ") && got.starts_with("0 35, "), "{expected} and {got}");
+    assert!(
+        expected.starts_with("0 7, ") && got.starts_with("0 35, "),
+        "{expected} and {got}"
+    );
 }
 
 #[test]
 fn a_wrong_error_of_the_drop_in_type() {
     let (subject, input, _, expected, got) = found(Plant::DropIn, "encode-random");
     assert_eq!((subject, input), (Subject::DropIn, vec![0, 0]));
-    assert_eq!((expected.as_str(), got.as_str()), ("Err(Character)", "Err(Length)"));
+    assert_eq!(
+        (expected.as_str(), got.as_str()),
+        ("Err(Character)", "Err(Length)")
+    );
 }
 
 /// A part with no input ends the run with status 1.
 #[test]
 fn a_part_with_nothing_in_it() {
     let words = ["--random", "19", "encode-random", "encode-moved"];
-    let run = Command::new(env!("CARGO_BIN_EXE_compare")).args(words).output().expect("the command runs");
+    let run = Command::new(env!("CARGO_BIN_EXE_compare"))
+        .args(words)
+        .output()
+        .expect("the command runs");
     let printed = String::from_utf8(run.stdout).expect("text");
-    assert!(run.status.code() == Some(1) && printed.ends_with("part encode-moved compared no input (--random 19)\n"), "{printed}");
+    assert!(
+        run.status.code() == Some(1)
+            && printed.ends_with("part encode-moved compared no input (--random 19)\n"),
+        "{printed}"
+    );
 }
 
-/// Each kind of answer that was not met is named.
+/// Each kind of answer that a run did not come across is named.
 #[test]
-fn kinds_that_were_not_met() {
-    let mut tally = Tally { accepted: 1, drop_in: 1, refused: [1; 24], listed: [1; 7], ..Tally::default() };
+fn kinds_that_did_not_occur() {
+    let mut tally = Tally {
+        accepted: 1,
+        drop_in: 1,
+        refused: [1; 24],
+        listed: [1; 7],
+        ..Tally::default()
+    };
     assert_eq!(unmet(&tally), [""; 0]);
     (tally.refused[23], tally.listed[3]) = (0, 0);
-    assert_eq!(unmet(&tally), ["refusal 23", "the row '÷ for DEL: number 95 in set B'"]);
+    assert_eq!(
+        unmet(&tally),
+        ["refusal 23", "the row '÷ for DEL: number 95 in set B'"]
+    );
     assert_eq!(unmet(&Tally::default()).len(), 2 + 15 + 7);
 }
 
-/// A claim over a whole part is said not to be made smaller.
+/// The report of a claim about a whole part says that its input was not made smaller.
 #[test]
 fn a_claim_over_a_whole_part() {
     let fault = compare::check::broken(Subject::Count, vec![0xC0], "one".into(), "none".into());
     let lines = report::fault_lines("read-all", &fault, &fault, "", 1, 20);
-    assert!(lines.contains("not made smaller") && !lines.contains("--case"), "{lines}");
+    assert!(
+        lines.contains("not made smaller") && !lines.contains("--case"),
+        "{lines}"
+    );
 }
 
 #[test]
 fn the_true_face_passes_and_the_seed_alone_decides() {
-    for part in ["encode-random", "encode-moved", "read-random", "lists-random", "records-random"] {
+    for part in [
+        "encode-random",
+        "encode-moved",
+        "read-random",
+        "lists-random",
+        "records-random",
+    ] {
         let once = part_of(&True, part, 7, 1).expect("no difference");
         assert_eq!(once, part_of(&True, part, 7, 2).expect("no difference"));
         assert_ne!(once, part_of(&True, part, 8, 2).expect("no difference"));

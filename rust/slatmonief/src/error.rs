@@ -1,21 +1,21 @@
-//! The error type of the crate barcoders, with its words.
+//! The error type of the crate barcoders, with the same names and messages.
 use std::error::Error as StdError;
 use std::fmt;
 
-/// The possible errors that can occur during barcode encoding.
+/// Why a barcode cannot be encoded.
 #[derive(Copy, Clone, Debug, PartialEq)]
 pub enum Error {
-    /// An invalid character found during encoding.
+    /// The data has a character that cannot be encoded at its place.
     Character,
-    /// An invalid data length during encoding.
+    /// The data is too short or too long.
     Length,
-    /// An error during barcode generation; never given here.
+    /// A picture cannot be made. This crate never returns it.
     Generate,
-    /// Invalid checksum; never given here.
+    /// The checksum is invalid. This crate never returns it.
     Checksum,
 }
 
-/// Alias-type for Result<T, slatmonief::error::Error>.
+/// A `Result` with this error.
 pub type Result<T> = ::core::result::Result<T, Error>;
 
 impl fmt::Display for Error {

@@ -1,14 +1,31 @@
-//! Code 128 rows: written, read, spelled, scanned, packed and unpacked.
+//! Code 128 rows: written, read back, packed and unpacked.
 //!
-//! This is a thin, safe face over a library in which every function is proved to do what is said here, for every input.
-//! The seven functions [`encode`], [`draw`], [`read`], [`spell`], [`scan`], [`pack`] and [`unpack`] work on slices that you
-//! lend: an accepted call fills the front of the buffer and leaves the rest as it was, a refused call leaves all of it as it
-//! was, and nothing is reserved. The functions behind them, [`encode_str`] and the others that answer a `Vec`, do the lending for you,
-//! with buffers of the limit's size. [`sym::code128::Code128`] has the signatures of the crate barcoders, so that a program which uses
-//! that changes one `use` line.
+//! This crate is a thin, safe layer over a library in which every function is proved to do what its
+//! documentation says, for every input.
 //!
-//! A *cell* is a byte, 1 for bar and 0 for space. A *symbol list* is a START number (103, 104 or 105) and then data numbers 0 to 102,
-//! without the check; its length n is 1 to 255. A row has 11(n+1)+13 cells, at most [`MOST_CELLS`].
+//! # Words
+//!
+//! - A *cell* is a byte: 1 for a bar, 0 for a space.
+//! - A *symbol list* is a START number (103, 104 or 105) and then data numbers from 0 to 102,
+//!   without the check. Its length, n, is from 1 to 255.
+//! - A *row* is the cells of a symbol list, of its check and of the stop: 11(n+1)+13 cells.
+//! - A *row record* is a row in few bytes: a version byte, a byte with n, and then eight cells in
+//!   each byte.
+//! - Places in texts, lists, rows and records count from 0.
+//!
+//! # Three ways to call it
+//!
+//! - [`encode`], [`draw`], [`read`], [`spell`], [`scan`], [`pack`] and [`unpack`] write into a
+//!   buffer that you lend, and allocate nothing. An accepted call fills the front of the buffer and
+//!   leaves the rest of it unchanged. A refused call leaves all of it unchanged and returns a
+//!   [`Refusal`]. With a buffer of the size [`MOST_CELLS`], [`MOST_SYMBOLS`], [`MOST_CODE_POINTS`],
+//!   [`MOST_SCANNED`] or [`MOST_RECORD`] there is always enough room.
+//! - [`encode_str`], [`draw_symbols`], [`read_row`], [`spell_symbols`], [`scan_symbols`],
+//!   [`pack_row`] and [`unpack_record`] do the same and return a new `Vec` or `String`.
+//! - [`sym::code128::Code128`] has the signatures of the crate barcoders. A program that uses that
+//!   crate changes one `use` line.
+//!
+//! # Example
 //!
 //! ```
 //! let row = slatmonief::encode_str("ƁAIMĆ1234")?;
@@ -27,23 +44,25 @@
 //! ```
 #![warn(missing_docs)]
 
-mod refusal;
 pub mod error;
+mod refusal;
 pub mod sym;
 
 pub use refusal::Refusal;
 
-/// The most cells of a row.
+/// The most cells that a row has.
 pub const MOST_CELLS: usize = 2829;
-/// The most symbols of a list.
+/// The most symbols that a list has.
 pub const MOST_SYMBOLS: usize = 255;
-/// The most code points that a list is spelled by.
+/// The most code points that [`spell`] writes.
 pub const MOST_CODE_POINTS: usize = 509;
-/// The most bytes that a scanner sends for a list.
+/// The most bytes that [`scan`] writes.
 pub const MOST_SCANNED: usize = 508;
-/// The most bytes of a row record.
+/// The most bytes that a row record has.
 pub const MOST_RECORD: usize = 356;
 
+/// What a call of the library answers: 0 and a number, or the number of a refusal and its second
+/// number.
 #[repr(C)]
 struct Numbers {
     number: u32,
@@ -51,15 +70,51 @@ struct Numbers {
 }
 
 extern "C" {
-    fn slatmonief_encode(text: *const u32, text_len: usize, row: *mut u8, row_len: usize) -> Numbers;
-    fn slatmonief_draw(symbols: *const u8, symbols_len: usize, row: *mut u8, row_len: usize) -> Numbers;
-    fn slatmonief_read(row: *const u8, row_len: usize, symbols: *mut u8, symbols_len: usize) -> Numbers;
-    fn slatmonief_spell(symbols: *const u8, symbols_len: usize, text: *mut u32, text_len: usize) -> Numbers;
-    fn slatmonief_scan(symbols: *const u8, symbols_len: usize, bytes: *mut u8, bytes_len: usize) -> Numbers;
-    fn slatmonief_pack(row: *const u8, row_len: usize, record: *mut u8, record_len: usize) -> Numbers;
-    fn slatmonief_unpack(record: *const u8, record_len: usize, row: *mut u8, row_len: usize) -> Numbers;
+    fn slatmonief_encode(
+        text: *const u32,
+        text_len: usize,
+        row: *mut u8,
+        row_len: usize,
+    ) -> Numbers;
+    fn slatmonief_draw(
+        symbols: *const u8,
+        symbols_len: usize,
+        row: *mut u8,
+        row_len: usize,
+    ) -> Numbers;
+    fn slatmonief_read(
+        row: *const u8,
+        row_len: usize,
+        symbols: *mut u8,
+        symbols_len: usize,
+    ) -> Numbers;
+    fn slatmonief_spell(
+        symbols: *const u8,
+        symbols_len: usize,
+        text: *mut u32,
+        text_len: usize,
+    ) -> Numbers;
+    fn slatmonief_scan(
+        symbols: *const u8,
+        symbols_len: usize,
+        bytes: *mut u8,
+        bytes_len: usize,
+    ) -> Numbers;
+    fn slatmonief_pack(
+        row: *const u8,
+        row_len: usize,
+        record: *mut u8,
+        record_len: usize,
+    ) -> Numbers;
+    fn slatmonief_unpack(
+        record: *const u8,
+        record_len: usize,
+        row: *mut u8,
+        row_len: usize,
+    ) -> Numbers;
 }
 
+/// The answer of a job as a `Result`.
 fn answer(job: refusal::Job, a: Numbers) -> Result<usize, Refusal> {
     match a.number {
         0 => Ok(a.second),
@@ -67,20 +122,48 @@ fn answer(job: refusal::Job, a: Numbers) -> Result<usize, Refusal> {
     }
 }
 
+/// A function that calls one job of the library.
 macro_rules! job {
-    ($(#[$doc:meta])* $name:ident, $extern:ident, $job:ident, $input:ident: $from:ty, $output:ident: $to:ty) => {
+    (
+        $(#[$doc:meta])*
+        $name:ident, $extern:ident, $job:ident, $input:ident: $from:ty, $output:ident: $to:ty
+    ) => {
         $(#[$doc])*
         pub fn $name($input: &[$from], $output: &mut [$to]) -> Result<usize, Refusal> {
-            // Safe: both slices are valid for their lengths, a `&` and a `&mut` slice do not overlap, and the library keeps neither.
-            answer(refusal::Job::$job, unsafe { $extern($input.as_ptr(), $input.len(), $output.as_mut_ptr(), $output.len()) })
+            // SAFETY: both slices are valid for their lengths, a `&` and a `&mut` slice do not
+            // overlap, and the library keeps neither of them.
+            let numbers = unsafe {
+                $extern($input.as_ptr(), $input.len(), $output.as_mut_ptr(), $output.len())
+            };
+            answer(refusal::Job::$job, numbers)
         }
     };
 }
 
 job! {
-    /// Code points to a row; answers n.
+    /// Encodes a text, given as code points, to a row; returns n, the number of symbols.
     ///
-    /// Refused, in this order: 1 (no scalar value), 2 (fewer than two UTF-8 bytes), 3 (parsing stops), 4 (more than 255 symbols), 5 (`row` too short).
+    /// The text names its code sets: it begins with À, Ɓ or Ć for set A, B or C, and switches to
+    /// another set by the same letters. Other letters are written for symbols that have no
+    /// character of their own: Ź for FNC1, ź for FNC2, Ż for FNC3, ż for FNC4, Ž for Shift and, in
+    /// set B, ÷ for DEL. Shift does not change the set of the next code point. Set C takes digits
+    /// in pairs, Ź and the switches; a Ź inside a pair gives the same row as a Ź ahead of the pair.
+    ///
+    /// # Refusals, in this order
+    ///
+    /// | Number | Reason | Second number |
+    /// |---|---|---|
+    /// | 1 | a value is not a Unicode scalar value | its place |
+    /// | 2 | the text has fewer than two UTF-8 bytes | 0 |
+    /// | 3 | parsing stops | the place; the length of the text if a digit is left over |
+    /// | 4 | more than 255 symbols are needed | the symbols needed |
+    /// | 5 | `row` is too short | the cells needed |
+    ///
+    /// Parsing stops at place 0 if the text does not begin with À, Ɓ or Ć. Later it stops at a code
+    /// point that has no number in the current set and, after the first digit of a pair, at
+    /// anything but a digit or Ź.
+    ///
+    /// # Example
     ///
     /// ```
     /// let mut row = [7; 40];
@@ -90,16 +173,38 @@ job! {
     encode, slatmonief_encode, Encode, text: u32, row: u8
 }
 job! {
-    /// A symbol list to a row; answers n.
+    /// Draws a symbol list as a row; returns n, the number of symbols.
     ///
-    /// Refused, in this order: 10 (length), 13 (a number where it may not stand), 5 (`row` too short).
+    /// # Refusals, in this order
+    ///
+    /// | Number | Reason | Second number |
+    /// |---|---|---|
+    /// | 10 | the list is empty or has more than 255 symbols | its length |
+    /// | 13 | place 0 is not a START, or a later number is above 102 | the first such place |
+    /// | 5 | `row` is too short | the cells needed |
     draw, slatmonief_draw, Draw, symbols: u8, row: u8
 }
 job! {
-    /// A row to its symbol list; answers n.
+    /// Reads a row back to its symbol list; returns n, the number of symbols.
     ///
-    /// Refused, in this order: 10 (length), 11 (a cell neither 0 nor 1), 12 and 13 from the left (no pattern; a number where it may not stand),
-    /// 15 (no stop), 14 (wrong check), 5 (`symbols` too short).
+    /// It accepts exactly the rows that [`encode`] writes.
+    ///
+    /// # Refusals, in this order
+    ///
+    /// | Number | Reason | Second number |
+    /// |---|---|---|
+    /// | 10 | no row has this length | the length |
+    /// | 11 | a cell is neither 0 nor 1 | the first such place |
+    /// | 12 | a block of eleven cells is none of the 106 patterns | the block |
+    /// | 13 | block 0 is not a START, or a later block is one | the block |
+    /// | 15 | the last 13 cells are not the stop | the place of the first wrong cell |
+    /// | 14 | the check is wrong | the check that would be right |
+    /// | 5 | `symbols` is too short | n |
+    ///
+    /// Refusals 12 and 13 are tested together, block by block from the left. Block 0 is the START,
+    /// and block n is the check.
+    ///
+    /// # Example
     ///
     /// ```
     /// let row = slatmonief::encode_str("Ć12").unwrap();
@@ -110,82 +215,126 @@ job! {
     read, slatmonief_read, Read, row: u8, symbols: u8
 }
 job! {
-    /// A symbol list to the one text that encodes to it with no FNC1 (Ź) inside a pair; answers the code points written.
+    /// Spells a symbol list as a text, in code points; returns the number of code points written.
     ///
-    /// Refused, in this order: 10, 13, 5.
+    /// It is the one text that [`encode`] turns into this list and that has no Ź (FNC1) inside a
+    /// pair.
+    ///
+    /// # Refusals, in this order
+    ///
+    /// | Number | Reason | Second number |
+    /// |---|---|---|
+    /// | 10 | the list is empty or has more than 255 symbols | its length |
+    /// | 13 | place 0 is not a START, or a later number is above 102 | the first such place |
+    /// | 5 | `text` is too short | the code points needed |
     spell, slatmonief_spell, Spell, symbols: u8, text: u32
 }
 job! {
-    /// A symbol list to the 7-bit bytes that a scanner sends; answers the bytes written.
+    /// Writes the 7-bit bytes that a scanner sends for a symbol list; returns their number.
     ///
-    /// Refused, in this order: 10, 13, 5.
+    /// A START, a switch, Shift and the function symbols send nothing. Shift does not change the
+    /// reading of the next symbol.
+    ///
+    /// # Refusals, in this order
+    ///
+    /// | Number | Reason | Second number |
+    /// |---|---|---|
+    /// | 10 | the list is empty or has more than 255 symbols | its length |
+    /// | 13 | place 0 is not a START, or a later number is above 102 | the first such place |
+    /// | 5 | `bytes` is too short | the bytes needed |
     scan, slatmonief_scan, Scan, symbols: u8, bytes: u8
 }
 job! {
-    /// A row's cells to a row record; answers the bytes written. The row need not be readable.
+    /// Packs the cells of a row into a row record; returns the number of bytes written.
     ///
-    /// Refused, in this order: 10, 11, 5.
+    /// The row may have any cells: [`read`] need not accept it.
+    ///
+    /// # Refusals, in this order
+    ///
+    /// | Number | Reason | Second number |
+    /// |---|---|---|
+    /// | 10 | no row has this length | the length |
+    /// | 11 | a cell is neither 0 nor 1 | the first such place |
+    /// | 5 | `record` is too short | the bytes needed |
     pack, slatmonief_pack, Pack, row: u8, record: u8
 }
 job! {
-    /// A row record to its cells; answers the cells written.
+    /// Unpacks a row record to the cells of its row; returns the number of cells written.
     ///
-    /// Refused, in this order: 20 (under 2 bytes), 21 (version), 22 (length not what the count needs), 23 (a spare bit set), 5 (`row` too short).
+    /// # Refusals, in this order
+    ///
+    /// | Number | Reason | Second number |
+    /// |---|---|---|
+    /// | 20 | the record has fewer than two bytes | its length |
+    /// | 21 | the version byte is not 1 | that byte |
+    /// | 22 | the record declares no symbols | 0 |
+    /// | 22 | the length is not what the declared number of symbols needs | the bytes needed |
+    /// | 23 | a spare bit of the last byte is set | the place of the last byte |
+    /// | 5 | `row` is too short | the cells needed |
+    ///
+    /// # Example
     ///
     /// ```
     /// let mut row = [0; slatmonief::MOST_CELLS];
     /// let refusal = slatmonief::unpack(&[1, 255], &mut row).unwrap_err();
-    /// assert_eq!(refusal.to_string(), "refusal 22: the record's length is not what its count needs, 356 bytes");
+    /// assert_eq!((refusal.number(), refusal.second()), (22, 356));
+    /// let words = "refusal 22: the record's length is not what its count needs, 356 bytes";
+    /// assert_eq!(refusal.to_string(), words);
     /// ```
     unpack, slatmonief_unpack, Unpack, record: u8, row: u8
 }
 
-/// The front of a buffer of the limit's size.
-fn lent<T: Copy + Default, const N: usize>(job: impl FnOnce(&mut [T]) -> Result<usize, Refusal>, length: impl FnOnce(usize) -> usize) -> Result<Vec<T>, Refusal> {
+/// What a job writes to the front of a buffer of N elements, as a new vector.
+fn lent<T: Copy + Default, const N: usize>(
+    job: impl FnOnce(&mut [T]) -> Result<usize, Refusal>,
+    length: impl FnOnce(usize) -> usize,
+) -> Result<Vec<T>, Refusal> {
     let mut buffer = [T::default(); N];
     let n = job(&mut buffer)?;
     Ok(buffer[..length(n)].to_vec())
 }
 
+/// The number of cells in a row of n symbols.
 fn cells(n: usize) -> usize {
     11 * (n + 1) + 13
 }
 
-/// [`encode`] of a text, into a row of its own.
+/// Encodes a text like [`encode`], and returns the row.
 ///
-/// A text has scalar values only, so refusal 1 is not given, and the row's buffer is never too short.
+/// A `&str` has only scalar values and the row always has enough room, so refusals 1 and 5 do not
+/// occur.
 pub fn encode_str(text: &str) -> Result<Vec<u8>, Refusal> {
     let points: Vec<u32> = text.chars().map(u32::from).collect();
     lent::<u8, MOST_CELLS>(|row| encode(&points, row), cells)
 }
 
-/// [`draw`] into a row of its own.
+/// Draws a symbol list like [`draw`], and returns the row. Refusal 5 does not occur.
 pub fn draw_symbols(symbols: &[u8]) -> Result<Vec<u8>, Refusal> {
     lent::<u8, MOST_CELLS>(|row| draw(symbols, row), cells)
 }
 
-/// [`read`] into a list of its own.
+/// Reads a row like [`read`], and returns the symbol list. Refusal 5 does not occur.
 pub fn read_row(row: &[u8]) -> Result<Vec<u8>, Refusal> {
     lent::<u8, MOST_SYMBOLS>(|symbols| read(row, symbols), |n| n)
 }
 
-/// [`spell`] into a text of its own.
+/// Spells a symbol list like [`spell`], and returns the text. Refusal 5 does not occur.
 pub fn spell_symbols(symbols: &[u8]) -> Result<String, Refusal> {
     let points = lent::<u32, MOST_CODE_POINTS>(|text| spell(symbols, text), |n| n)?;
     Ok(points.into_iter().filter_map(char::from_u32).collect())
 }
 
-/// [`scan`] into bytes of its own.
+/// Scans a symbol list like [`scan`], and returns the bytes. Refusal 5 does not occur.
 pub fn scan_symbols(symbols: &[u8]) -> Result<Vec<u8>, Refusal> {
     lent::<u8, MOST_SCANNED>(|bytes| scan(symbols, bytes), |n| n)
 }
 
-/// [`pack`] into a record of its own.
+/// Packs a row like [`pack`], and returns the row record. Refusal 5 does not occur.
 pub fn pack_row(row: &[u8]) -> Result<Vec<u8>, Refusal> {
     lent::<u8, MOST_RECORD>(|record| pack(row, record), |n| n)
 }
 
-/// [`unpack`] into a row of its own.
+/// Unpacks a row record like [`unpack`], and returns the row. Refusal 5 does not occur.
 pub fn unpack_record(record: &[u8]) -> Result<Vec<u8>, Refusal> {
     lent::<u8, MOST_CELLS>(|row| unpack(record, row), |n| n)
 }

@@ -1,7 +1,7 @@
 use std::error::Error;
 use std::fmt;
 
-/// Which of the seven refused: the words for refusals 5, 10 and 13 depend on it.
+/// The job that refused: the words for refusals 5, 10 and 13 depend on it.
 #[derive(Clone, Copy, Debug, PartialEq, Eq, Hash)]
 pub(crate) enum Job {
     Encode,
@@ -13,7 +13,17 @@ pub(crate) enum Job {
     Unpack,
 }
 
-/// Why a call was refused: the number of the refusal and its second number. The lent buffer is as it was.
+/// Why a call was refused: the number of the refusal and a second number. The lent buffer is
+/// unchanged.
+///
+/// The documentation of each function lists its refusals. The text of the error gives both numbers
+/// in words.
+///
+/// ```
+/// let refusal = slatmonief::encode_str("ÀHello").unwrap_err();
+/// assert_eq!((refusal.number(), refusal.second()), (3, 2));
+/// assert_eq!(refusal.to_string(), "refusal 3: parsing stops at place 2");
+/// ```
 #[derive(Clone, Copy, Debug, PartialEq, Eq, Hash)]
 pub struct Refusal {
     job: Job,
@@ -22,8 +32,13 @@ pub struct Refusal {
 }
 
 impl Refusal {
+    /// The refusal of a job by these two numbers.
     pub(crate) fn new(job: Job, number: u32, second: usize) -> Refusal {
-        Refusal { job, number, second }
+        Refusal {
+            job,
+            number,
+            second,
+        }
     }
 
     /// The number of the refusal, from 1 to 23.
@@ -31,7 +46,7 @@ impl Refusal {
         self.number
     }
 
-    /// The second number: a place, a block, a length or a check, as the refusal's words say.
+    /// The second number: a place, a block, a length, a version, a check, or what would be needed.
     pub fn second(&self) -> usize {
         self.second
     }
@@ -46,10 +61,17 @@ impl fmt::Display for Refusal {
             (2, _) => write!(f, "the text has fewer than two UTF-8 bytes"),
             (3, _) => write!(f, "parsing stops at place {m}"),
             (4, _) => write!(f, "{m} symbols are needed and 255 is the limit"),
-            (5, Job::Encode | Job::Draw | Job::Unpack) => write!(f, "the row's buffer is too short, {m} cells are needed"),
+            (5, Job::Encode | Job::Draw | Job::Unpack) => {
+                write!(f, "the row's buffer is too short, {m} cells are needed")
+            }
             (5, Job::Read) => write!(f, "the list's buffer is too short, {m} symbols are needed"),
-            (5, Job::Spell) => write!(f, "the text's buffer is too short, {m} code points are needed"),
-            (5, Job::Scan | Job::Pack) => write!(f, "the buffer is too short, {m} bytes are needed"),
+            (5, Job::Spell) => write!(
+                f,
+                "the text's buffer is too short, {m} code points are needed"
+            ),
+            (5, Job::Scan | Job::Pack) => {
+                write!(f, "the buffer is too short, {m} bytes are needed")
+            }
             (10, Job::Read | Job::Pack) => write!(f, "no row has {m} cells"),
             (10, _) => write!(f, "no symbol list has {m} symbols"),
             (11, _) => write!(f, "the cell at place {m} is neither 0 nor 1"),
@@ -61,7 +83,10 @@ impl fmt::Display for Refusal {
             (20, _) => write!(f, "a record of {m} bytes has no head"),
             (21, _) => write!(f, "the record's version is {m} and not 1"),
             (22, _) if m == 0 => write!(f, "the record declares no symbols"),
-            (22, _) => write!(f, "the record's length is not what its count needs, {m} bytes"),
+            (22, _) => write!(
+                f,
+                "the record's length is not what its count needs, {m} bytes"
+            ),
             (23, _) => write!(f, "a spare bit is set in the last byte, at place {m}"),
             (_, _) => write!(f, "second number {m}"),
         }

@@ -1,3 +1,3 @@
-//! The symbologies under the names of the crate barcoders.
+//! The symbologies, under their names in the crate barcoders.
 
 pub mod code128;

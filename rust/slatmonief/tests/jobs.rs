@@ -1,13 +1,21 @@
-//! The Rust face: what each job answers, what a refusal leaves alone, and its words.
+//! What each job answers, that a refusal leaves the buffer unchanged, and the words of the
+//! refusals.
 use slatmonief::sym::code128::Code128;
 use slatmonief::{error::Error, *};
 
+/// The code points of a text.
 fn points(text: &str) -> Vec<u32> {
     text.chars().map(u32::from).collect()
 }
 
-/// Every buffer length around the one that is needed: refused by 5 with the buffer as it was, or filled at the front alone.
-fn at_every_room<T: Copy + PartialEq + std::fmt::Debug>(blank: T, out: &[T], number: usize, job: impl Fn(&mut [T]) -> Result<usize, Refusal>) {
+/// A job with every buffer length up to a little more than it needs: it refuses by 5 and leaves the
+/// buffer unchanged, or it fills only the front of the buffer.
+fn at_every_room<T: Copy + PartialEq + std::fmt::Debug>(
+    blank: T,
+    out: &[T],
+    number: usize,
+    job: impl Fn(&mut [T]) -> Result<usize, Refusal>,
+) {
     for room in 0..out.len() + 4 {
         let mut buffer = vec![blank; room];
         match job(&mut buffer) {
@@ -28,7 +36,16 @@ fn at_every_room<T: Copy + PartialEq + std::fmt::Debug>(blank: T, out: &[T], num
 
 #[test]
 fn every_job_at_every_room() {
-    for text in ["À", "Ć12", "ĆŹ12", "ÀĆ12", "ƁŽ", "Ɓ÷", "ƁAIMĆ1234", "À\u{0}\u{1f} _ŻźŽżŹĆ00ŹÀ"] {
+    for text in [
+        "À",
+        "Ć12",
+        "ĆŹ12",
+        "ÀĆ12",
+        "ƁŽ",
+        "Ɓ÷",
+        "ƁAIMĆ1234",
+        "À\u{0}\u{1f} _ŻźŽżŹĆ00ŹÀ",
+    ] {
         let row = encode_str(text).unwrap();
         let symbols = read_row(&row).unwrap();
         let n = symbols.len();
@@ -58,27 +75,129 @@ fn refusals_leave_the_buffer_and_speak() {
         row
     };
     let cases: Vec<(Result<usize, Refusal>, u32, usize, &str)> = vec![
-        (encode(&[0x41, 0xD800], &mut row), 1, 1, "refusal 1: the value at place 1 is no Unicode scalar value"),
-        (encode(&[0x41], &mut row), 2, 0, "refusal 2: the text has fewer than two UTF-8 bytes"),
-        (encode(&points("ÀÀ"), &mut row), 3, 1, "refusal 3: parsing stops at place 1"),
-        (encode(&points(&format!("Ɓ{}", "A".repeat(255))), &mut row), 4, 256, "refusal 4: 256 symbols are needed and 255 is the limit"),
-        (encode(&points("Ć12"), &mut row), 5, 46, "refusal 5: the row's buffer is too short, 46 cells are needed"),
-        (draw(&[], &mut row), 10, 0, "refusal 10: no symbol list has 0 symbols"),
-        (draw(&[104, 104], &mut row), 13, 1, "refusal 13: the number at place 1 may not stand there"),
-        (read(&good[1..], &mut list), 10, 67, "refusal 10: no row has 67 cells"),
-        (read(&spoilt(9, 2), &mut list), 11, 9, "refusal 11: the cell at place 9 is neither 0 nor 1"),
-        (read(&spoilt(12, 1), &mut list), 12, 1, "refusal 12: block 1 is none of the 106 patterns"),
-        (read(&good[11..].iter().chain(&good[..11]).copied().collect::<Vec<_>>(), &mut list), 13, 0, "refusal 13: block 0 has a number that may not stand there"),
-        (read(&spoilt(67, 0), &mut list), 15, 67, "refusal 15: the cell at place 67 is not the stop's"),
-        (read(&[&good[..44], &good[11..22], &good[55..]].concat(), &mut list), 14, 45, "refusal 14: the check is wrong, 45 would be right"),
-        (unpack(&[1], &mut row), 20, 1, "refusal 20: a record of 1 bytes has no head"),
-        (unpack(&[2, 1], &mut row), 21, 2, "refusal 21: the record's version is 2 and not 1"),
-        (unpack(&[1, 0], &mut row), 22, 0, "refusal 22: the record declares no symbols"),
-        (unpack(&[1, 1, 0, 0, 0, 0, 1], &mut row), 23, 6, "refusal 23: a spare bit is set in the last byte, at place 6"),
+        (
+            encode(&[0x41, 0xD800], &mut row),
+            1,
+            1,
+            "refusal 1: the value at place 1 is no Unicode scalar value",
+        ),
+        (
+            encode(&[0x41], &mut row),
+            2,
+            0,
+            "refusal 2: the text has fewer than two UTF-8 bytes",
+        ),
+        (
+            encode(&points("ÀÀ"), &mut row),
+            3,
+            1,
+            "refusal 3: parsing stops at place 1",
+        ),
+        (
+            encode(&points(&format!("Ɓ{}", "A".repeat(255))), &mut row),
+            4,
+            256,
+            "refusal 4: 256 symbols are needed and 255 is the limit",
+        ),
+        (
+            encode(&points("Ć12"), &mut row),
+            5,
+            46,
+            "refusal 5: the row's buffer is too short, 46 cells are needed",
+        ),
+        (
+            draw(&[], &mut row),
+            10,
+            0,
+            "refusal 10: no symbol list has 0 symbols",
+        ),
+        (
+            draw(&[104, 104], &mut row),
+            13,
+            1,
+            "refusal 13: the number at place 1 may not stand there",
+        ),
+        (
+            read(&good[1..], &mut list),
+            10,
+            67,
+            "refusal 10: no row has 67 cells",
+        ),
+        (
+            read(&spoilt(9, 2), &mut list),
+            11,
+            9,
+            "refusal 11: the cell at place 9 is neither 0 nor 1",
+        ),
+        (
+            read(&spoilt(12, 1), &mut list),
+            12,
+            1,
+            "refusal 12: block 1 is none of the 106 patterns",
+        ),
+        (
+            read(
+                &good[11..]
+                    .iter()
+                    .chain(&good[..11])
+                    .copied()
+                    .collect::<Vec<_>>(),
+                &mut list,
+            ),
+            13,
+            0,
+            "refusal 13: block 0 has a number that may not stand there",
+        ),
+        (
+            read(&spoilt(67, 0), &mut list),
+            15,
+            67,
+            "refusal 15: the cell at place 67 is not the stop's",
+        ),
+        (
+            read(
+                &[&good[..44], &good[11..22], &good[55..]].concat(),
+                &mut list,
+            ),
+            14,
+            45,
+            "refusal 14: the check is wrong, 45 would be right",
+        ),
+        (
+            unpack(&[1], &mut row),
+            20,
+            1,
+            "refusal 20: a record of 1 bytes has no head",
+        ),
+        (
+            unpack(&[2, 1], &mut row),
+            21,
+            2,
+            "refusal 21: the record's version is 2 and not 1",
+        ),
+        (
+            unpack(&[1, 0], &mut row),
+            22,
+            0,
+            "refusal 22: the record declares no symbols",
+        ),
+        (
+            unpack(&[1, 1, 0, 0, 0, 0, 1], &mut row),
+            23,
+            6,
+            "refusal 23: a spare bit is set in the last byte, at place 6",
+        ),
     ];
     for (got, number, second, words) in cases {
         let refusal = got.unwrap_err();
-        assert_eq!((refusal.number(), refusal.second(), refusal.to_string().as_str()), (number, second, words));
+        assert_eq!(
+            (
+                refusal.number(),
+                refusal.second(),
+                refusal.to_string().as_str()
+            ),
+            (number, second, words)
+        );
         let _: &dyn std::error::Error = &refusal;
     }
     assert_eq!((row, list), ([9; 40], [9; 40]));
@@ -91,7 +210,10 @@ fn the_limits() {
     assert_eq!(row.len(), MOST_CELLS);
     let symbols = read_row(&row).unwrap();
     assert_eq!(symbols.len(), MOST_SYMBOLS);
-    assert_eq!(points(&spell_symbols(&symbols).unwrap()).len(), MOST_CODE_POINTS);
+    assert_eq!(
+        points(&spell_symbols(&symbols).unwrap()).len(),
+        MOST_CODE_POINTS
+    );
     assert_eq!(scan_symbols(&symbols).unwrap().len(), MOST_SCANNED);
     let record = pack_row(&row).unwrap();
     assert_eq!(record.len(), MOST_RECORD);
@@ -101,10 +223,22 @@ fn the_limits() {
 
 #[test]
 fn the_signatures_of_barcoders() {
-    assert_eq!(Code128::new("ƁHE1234A*1").unwrap().encode(), encode_str("ƁHE1234A*1").unwrap());
-    assert_eq!(Code128::new(String::from("ÀHE@$AĆ123456")).unwrap().encode().len(), 11 * 11 + 13);
+    assert_eq!(
+        Code128::new("ƁHE1234A*1").unwrap().encode(),
+        encode_str("ƁHE1234A*1").unwrap()
+    );
+    assert_eq!(
+        Code128::new(String::from("ÀHE@$AĆ123456"))
+            .unwrap()
+            .encode()
+            .len(),
+        11 * 11 + 13
+    );
     assert_eq!(Code128::new("A").unwrap_err(), Error::Length);
     assert_eq!(Code128::new("ÀŽa").unwrap_err(), Error::Character);
-    assert_eq!(Code128::new(format!("Ɓ{}", "A".repeat(255))).unwrap_err(), Error::Length);
+    assert_eq!(
+        Code128::new(format!("Ɓ{}", "A".repeat(255))).unwrap_err(),
+        Error::Length
+    );
     assert_eq!(Error::Character.to_string(), "Barcode data is invalid");
 }

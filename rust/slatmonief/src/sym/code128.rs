@@ -1,4 +1,4 @@
-//! Code 128 with the signatures of `barcoders::sym::code128`: change the `use` line and nothing else.
+//! Code 128 with the signatures of `barcoders::sym::code128`: change only the `use` line.
 //!
 //! ```
 //! use slatmonief::sym::code128::*;
@@ -8,16 +8,21 @@
 //! assert_eq!(encoded.len(), 11 * 11 + 13);
 //! ```
 //!
-//! One thing is new: a text of more than 255 symbols is refused, as `Error::Length`.
+//! It answers as barcoders does, with one difference: data of more than 255 symbols is refused by
+//! [`Error::Length`]. [`crate::encode`] describes the data; [`crate::encode_str`] also says at
+//! which place the data cannot be encoded.
 use crate::error::{Error, Result};
 
-/// The Code128 barcode type.
+/// A Code 128 barcode.
 #[derive(Debug)]
 pub struct Code128(Vec<u8>);
 
 impl Code128 {
-    /// Creates a new barcode.
-    /// Returns Result<Code128, Error> indicating parse success.
+    /// Makes a barcode of this data.
+    ///
+    /// Returns [`Error::Character`] if a character cannot be encoded at its place or a digit is
+    /// left over, and [`Error::Length`] if the data has fewer than two UTF-8 bytes or needs more
+    /// than 255 symbols.
     pub fn new<T: AsRef<str>>(data: T) -> Result<Code128> {
         match crate::encode_str(data.as_ref()) {
             Ok(row) => Ok(Code128(row)),
@@ -26,8 +31,7 @@ impl Code128 {
         }
     }
 
-    /// Encodes the barcode.
-    /// Returns a Vec<u8> of binary digits.
+    /// The cells of the barcode's row: 1 for a bar, 0 for a space.
     pub fn encode(&self) -> Vec<u8> {
         self.0.clone()
     }

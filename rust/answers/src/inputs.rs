@@ -1,10 +1,11 @@
-//! What the crate is asked: the inputs of the list, in their order, none of them twice.
-use crate::answers::Answers;
+//! The inputs of the list, in their order, each of them once.
+use crate::ask::Asker;
 use std::collections::HashSet;
 
+/// The code points that begin a label: the STARTs of sets A, B and C.
 const STARTS: [char; 3] = ['À', 'Ɓ', 'Ć'];
 
-/// A published label: where it stands, its symbols and its check there.
+/// A published label: where it is printed, and the symbols and the check that are given there.
 struct Published {
     place: &'static str,
     text: &'static str,
@@ -12,7 +13,8 @@ struct Published {
     check: usize,
 }
 
-/// The standard's examples, and the worked sum of the article "Code 128" of Wikipedia, as we know them: no copy of either was at hand.
+/// The standard's examples, and the worked sum of Wikipedia's article "Code 128". We had no copy of
+/// either text: these are the values as we know them.
 const PUBLISHED: [Published; 3] = [
     Published {
         place: "ISO/IEC 15417, Figure 1",
@@ -34,18 +36,19 @@ const PUBLISHED: [Published; 3] = [
     },
 ];
 
-/// Figure 1's bars and spaces, by their widths.
+/// The widths of the bars and spaces of Figure 1.
 const FIGURE_1: &str = "211214 111323 231311 113123 113123 2331112";
 
 /// The labels of the crate's documentation in src/sym/code128.rs.
 const DOCUMENTED: [&str; 3] = ["ƁHE1234A*1", "ÀHE@$AĆ123456", "À\u{6}"];
 
-/// The labels of document 01 that the crate can be asked; the long ones stand in `long`.
+/// The labels of document 01 that are Rust texts; the long ones are in `long`.
 const DOCUMENT_01: [&str; 17] = [
-    "", "A", "À", "€", "Ć12", "Ć1Ź2", "ĆŹ12", "Ć1", "Ć1À", "ÀÀ", "ÀĆ12", "ƁŽ", "ÀŽa", "Ɓ÷", "Ɓ\u{7F}", "Ɓ", "Ć",
+    "", "A", "À", "€", "Ć12", "Ć1Ź2", "ĆŹ12", "Ć1", "Ć1À", "ÀÀ", "ÀĆ12", "ƁŽ", "ÀŽa", "Ɓ÷",
+    "Ɓ\u{7F}", "Ɓ", "Ć",
 ];
 
-/// Others of everyday use: those that tools/examples asks.
+/// Labels of everyday use; tools/examples asks the same ones.
 const EVERYDAY: [&str; 10] = [
     "ƁWikipedia",
     "ÀHELLO",
@@ -59,24 +62,31 @@ const EVERYDAY: [&str; 10] = [
     "ĆŹ00123456789012345678Ɓ0",
 ];
 
-/// Code points with no number in any set: neighbours of those that have one, digits of other scripts, both sides of each length in UTF-8,
-/// and what an accent makes of A.
-const STRANGERS: &str = "\u{7F}\u{80}\u{BF}\u{C1}\u{F6}\u{F8}\u{105}\u{107}\u{178}\u{17E}\u{180}\u{182}\u{B2}\u{B3}\u{B9}\u{BD}\u{660}\u{661}\u{669}\
-    \u{6F1}\u{966}\u{967}\u{2070}\u{2081}\u{2460}\u{FF10}\u{FF11}\u{FF19}\u{1D7CE}\u{1D7CF}\u{1D7FF}\u{A0}\u{300}\u{7FF}\u{800}\u{20AC}\u{D7FF}\u{E000}\
-    \u{FEFF}\u{FFFD}\u{FFFF}\u{10000}\u{10FFFF}";
+/// Code points that have no number in any set: neighbours of those that have one, digits of other
+/// scripts, the first and last code point of each length in UTF-8, and the accent that makes A look
+/// like À.
+const STRANGERS: &str = "\
+    \u{7F}\u{80}\u{BF}\u{C1}\u{F6}\u{F8}\u{105}\u{107}\u{178}\u{17E}\u{180}\u{182}\u{B2}\
+    \u{B3}\u{B9}\u{BD}\u{660}\u{661}\u{669}\u{6F1}\u{966}\u{967}\u{2070}\u{2081}\u{2460}\
+    \u{FF10}\u{FF11}\u{FF19}\u{1D7CE}\u{1D7CF}\u{1D7FF}\u{A0}\u{300}\u{7FF}\u{800}\u{20AC}\
+    \u{D7FF}\u{E000}\u{FEFF}\u{FFFD}\u{FFFF}\u{10000}\u{10FFFF}";
 
-/// Twenty code points, some of each kind.
+/// Twenty code points of different kinds.
 const FEW: &str = "019 A_`a~\u{0}\u{1F}\u{7F}÷ÀƁĆŹżŽ€";
 
 /// Every code point that has a number in some set.
 fn letters() -> Vec<char> {
-    (0..=0x7E_u8).map(char::from).chain("÷ÀƁĆŹźŻżŽ".chars()).collect()
+    (0..=0x7E_u8)
+        .map(char::from)
+        .chain("÷ÀƁĆŹźŻżŽ".chars())
+        .collect()
 }
 
-/// A small generator of numbers that look random, SplitMix64, so that the list is the same whenever it is made.
+/// A small generator of random numbers (SplitMix64), so that the list is the same in every run.
 struct Dice(u64);
 
 impl Dice {
+    /// A number below `bound`.
     fn below(&mut self, bound: usize) -> usize {
         self.0 = self.0.wrapping_add(0x9E37_79B9_7F4A_7C15);
         let mut z = self.0;
@@ -85,95 +95,117 @@ impl Dice {
         ((z ^ (z >> 31)) % bound as u64) as usize
     }
 
+    /// One element of a slice.
     fn one<'a, T>(&mut self, of: &'a [T]) -> &'a T {
         &of[self.below(of.len())]
     }
 }
 
-/// The list while it grows.
+/// The list while it is made: its inputs so far.
 struct List<'a> {
-    says: &'a Answers,
+    asker: &'a Asker,
     texts: Vec<String>,
     known: HashSet<String>,
 }
 
 impl List<'_> {
-    /// One more input, if it is new. Of more than 255 symbols the crate makes a row and this build does not (docs/DIFFERENCES.md): such
-    /// an input is a mistake here.
-    fn ask(&mut self, text: impl Into<String>) {
+    /// Adds an input if it is new. For more than 255 symbols the crate makes a row and this library
+    /// does not (docs/DIFFERENCES.md): such an input may not be in the list.
+    fn add(&mut self, text: impl Into<String>) {
         let text = text.into();
-        if let Ok(symbols) = self.says.symbols(&text) {
-            assert!(symbols.len() <= 256, "{} symbols and a check", symbols.len() - 1);
+        if let Ok(symbols) = self.asker.symbols(&text) {
+            assert!(
+                symbols.len() <= 256,
+                "{} symbols and a check",
+                symbols.len() - 1
+            );
         }
         if self.known.insert(text.clone()) {
             self.texts.push(text);
         }
     }
 
-    /// The published labels, each held to what was published.
+    /// The published labels; stops if the crate answers otherwise than was published.
     fn published(&mut self) {
         for label in &PUBLISHED {
             let mut symbols = label.symbols.to_vec();
             symbols.push(label.check);
-            assert_eq!(self.says.symbols(label.text), Ok(symbols), "{}", label.place);
-            self.ask(label.text);
+            assert_eq!(
+                self.asker.symbols(label.text),
+                Ok(symbols),
+                "{}",
+                label.place
+            );
+            self.add(label.text);
         }
         let widths = FIGURE_1.chars().filter_map(|c| c.to_digit(10));
-        let cells: String = widths.enumerate().map(|(i, w)| ["1", "0"][i % 2].repeat(w as usize)).collect();
-        assert_eq!(self.says.cells("ƁAIM"), cells, "ISO/IEC 15417, Figure 1, its widths");
+        let cells: String = widths
+            .enumerate()
+            .map(|(i, w)| ["1", "0"][i % 2].repeat(w as usize))
+            .collect();
+        assert_eq!(
+            self.asker.cells("ƁAIM"),
+            cells,
+            "ISO/IEC 15417, Figure 1, its widths"
+        );
     }
 
-    /// No code point, and every letter and stranger alone.
+    /// The empty text, and every letter and stranger alone.
     fn alone(&mut self) {
-        self.ask("");
+        self.add("");
         for c in letters().into_iter().chain(STRANGERS.chars()) {
-            self.ask(c);
+            self.add(c);
         }
     }
 
-    /// Every letter behind each START, and behind each START with each switch; so with the hundred pairs of set C.
-    fn behind(&mut self) {
+    /// Every letter after each START and after each switch; and the hundred pairs after Ć.
+    fn after_starts(&mut self) {
         for start in STARTS {
-            let switched = STARTS.iter().filter(|set| **set != start).map(|set| format!("{start}{set}"));
+            let switched = STARTS
+                .iter()
+                .filter(|set| **set != start)
+                .map(|set| format!("{start}{set}"));
             for front in std::iter::once(String::from(start)).chain(switched) {
                 for c in letters() {
-                    self.ask(format!("{front}{c}"));
+                    self.add(format!("{front}{c}"));
                 }
                 if front.ends_with('Ć') {
                     for pair in 0..100 {
-                        self.ask(format!("{front}{pair:02}"));
+                        self.add(format!("{front}{pair:02}"));
                     }
                 }
             }
         }
     }
 
-    /// Strangers behind each START, in either half of a pair, with Ź between, and behind a switch.
+    /// Strangers after each START, in both halves of a pair, after a Ź inside a pair, after a
+    /// switch, and before a START.
     fn strange(&mut self) {
         for c in STRANGERS.chars() {
             for front in ["À", "Ɓ", "Ć", "Ć1", "Ć1Ź", "ÀƁ"] {
-                self.ask(format!("{front}{c}"));
+                self.add(format!("{front}{c}"));
             }
-            self.ask(format!("Ć{c}1"));
-            self.ask(format!("{c}À"));
+            self.add(format!("Ć{c}1"));
+            self.add(format!("{c}À"));
         }
     }
 
-    /// Each START with two of the twenty, and a beginning that is no START.
+    /// Each START with two of the twenty, and beginnings that are not a START.
     fn two(&mut self) {
         for first in FEW.chars() {
             for second in FEW.chars() {
                 for start in STARTS {
-                    self.ask(format!("{start}{first}{second}"));
+                    self.add(format!("{start}{first}{second}"));
                 }
             }
             for second in "A1ÀŹ€".chars() {
-                self.ask(format!("{first}{second}"));
+                self.add(format!("{first}{second}"));
             }
         }
     }
 
-    /// Digits of set C held across Ź, left over, switched: all of up to four of these code points, and longer ones.
+    /// Digits of set C that are held across Ź, left over, or followed by a switch: Ć with every
+    /// text of up to four of four code points, and longer texts.
     fn held(&mut self) {
         let mut fronts = vec![String::from("Ć")];
         for _ in 0..4 {
@@ -182,7 +214,7 @@ impl List<'_> {
                 .flat_map(|front| "17ŹƁ".chars().map(move |c| format!("{front}{c}")))
                 .collect();
             for text in &fronts {
-                self.ask(text);
+                self.add(text);
             }
         }
         for between in 0..=12 {
@@ -203,42 +235,42 @@ impl List<'_> {
                 "Ć9|98|87|76|6",
                 "Ć0|00|0",
             ] {
-                self.ask(text.replace('|', &fnc1));
+                self.add(text.replace('|', &fnc1));
             }
         }
     }
 
-    /// Labels at both sides of the places 103 and 206, whose weight is a multiple of 103, and at the limit; and long ones that are
-    /// refused at the end.
+    /// Labels that end just before or after the places 103 and 206, whose weights are multiples of
+    /// 103, or at the limit; and long labels that are refused at their end.
     fn long(&mut self) {
-        for (start, own) in STARTS.iter().zip(own_letters(self.says)) {
+        for (start, own) in STARTS.iter().zip(own_letters(self.asker)) {
             let other = if *start == 'À' { 'Ɓ' } else { 'À' };
             let highest = own[own.len() - 1].clone();
             for n in [102, 103, 104, 105, 205, 206, 207, 208, 253, 254, 255] {
                 let cycle: String = own.iter().cycle().take(n - 1).cloned().collect();
-                self.ask(format!("{start}{cycle}"));
+                self.add(format!("{start}{cycle}"));
             }
             for n in [254, 255] {
-                self.ask(format!("{start}{}", own[33].repeat(n - 1)));
-                self.ask(format!("{start}{}", own[0].repeat(n - 1)));
-                self.ask(format!("{start}{}", highest.repeat(n - 1)));
-                self.ask(format!("{start}{}", "Ź".repeat(n - 1)));
-                self.ask(format!("{other}{start}{}", own[33].repeat(n - 2)));
-                self.ask(format!("{start}{}{other}", own[33].repeat(n - 2)));
+                self.add(format!("{start}{}", own[33].repeat(n - 1)));
+                self.add(format!("{start}{}", own[0].repeat(n - 1)));
+                self.add(format!("{start}{}", highest.repeat(n - 1)));
+                self.add(format!("{start}{}", "Ź".repeat(n - 1)));
+                self.add(format!("{other}{start}{}", own[33].repeat(n - 2)));
+                self.add(format!("{start}{}{other}", own[33].repeat(n - 2)));
             }
-            self.ask(format!("{start}{}€", own[33].repeat(300)));
-            self.ask(format!("{start}{}{start}", own[33].repeat(254)));
-            self.ask(format!("{start}{}\u{7F}", own[33].repeat(253)));
+            self.add(format!("{start}{}€", own[33].repeat(300)));
+            self.add(format!("{start}{}{start}", own[33].repeat(254)));
+            self.add(format!("{start}{}\u{7F}", own[33].repeat(253)));
         }
         for text in ["Ć|7", "Ć|7À", "Ć7|ŹŹ", "Ć|7ŹŹ", "Ć|a"] {
-            self.ask(text.replace('|', &"12".repeat(254)));
+            self.add(text.replace('|', &"12".repeat(254)));
         }
-        self.ask(format!("Ć7{}7{}", "Ź".repeat(100), "12".repeat(153)));
+        self.add(format!("Ć7{}7{}", "Ź".repeat(100), "12".repeat(153)));
     }
 
-    /// Random labels that keep to the sets' own letters, and texts of any code points behind a START.
+    /// Random labels that are accepted, and texts of any code points after a START.
     fn random(&mut self, dice: &mut Dice) {
-        let own = own_letters(self.says);
+        let own = own_letters(self.asker);
         for count in 0..300 {
             let symbols = if count % 20 == 0 {
                 60 + dice.below(120)
@@ -246,8 +278,8 @@ impl List<'_> {
                 1 + dice.below(24)
             };
             let text = random_label(&own, dice, symbols);
-            assert!(self.says.accepts(&text), "{text:?}");
-            self.ask(text);
+            assert!(self.asker.accepts(&text), "{text:?}");
+            self.add(text);
         }
         let any: Vec<char> = letters()
             .into_iter()
@@ -256,11 +288,12 @@ impl List<'_> {
             .collect();
         for _ in 0..150 {
             let more: String = (0..1 + dice.below(7)).map(|_| *dice.one(&any)).collect();
-            self.ask(format!("{}{more}", dice.one(&STARTS)));
+            self.add(format!("{}{more}", dice.one(&STARTS)));
         }
     }
 
-    /// Copies with one damage: a code point lost, doubled, changed, two in the other order, the end cut off.
+    /// Labels of the list damaged in one place: a code point lost, doubled or changed, two
+    /// exchanged, the end cut off.
     fn damaged(&mut self, dice: &mut Dice) {
         let whole: Vec<Vec<char>> = self
             .texts
@@ -278,23 +311,32 @@ impl List<'_> {
             copies[3].swap(place, place + 1);
             copies[4].truncate(place + 1);
             for copy in copies {
-                self.ask(copy.into_iter().collect::<String>());
+                self.add(copy.into_iter().collect::<String>());
             }
         }
     }
 }
 
-/// Of each set what stands for one symbol in it and switches nothing, as the crate has it.
-fn own_letters(says: &Answers) -> [Vec<String>; 3] {
+/// For each set, the letters and pairs that the crate makes one symbol of; without the switches.
+fn own_letters(asker: &Asker) -> [Vec<String>; 3] {
     STARTS.map(|start| {
-        let mut own: Vec<String> = letters().iter().filter(|c| !STARTS.contains(c)).map(|c| c.to_string()).collect();
+        let mut own: Vec<String> = letters()
+            .iter()
+            .filter(|c| !STARTS.contains(c))
+            .map(|c| c.to_string())
+            .collect();
         own.extend((0..100).map(|pair| format!("{pair:02}")));
-        own.retain(|text| says.symbols(&format!("{start}{text}")).is_ok_and(|symbols| symbols.len() == 3));
+        own.retain(|text| {
+            asker
+                .symbols(&format!("{start}{text}"))
+                .is_ok_and(|symbols| symbols.len() == 3)
+        });
         own
     })
 }
 
-/// A label of so many symbols: START, then letters of the set that is current, a switch now and then, a Ź within a pair now and then.
+/// A label of `symbols` symbols: a START, then letters of the current set, sometimes a switch or a
+/// Ź inside a pair.
 fn random_label(own: &[Vec<String>; 3], dice: &mut Dice, symbols: usize) -> String {
     let mut set = dice.below(3);
     let mut text = String::from(STARTS[set]);
@@ -315,20 +357,20 @@ fn random_label(own: &[Vec<String>; 3], dice: &mut Dice, symbols: usize) -> Stri
     text
 }
 
-/// The whole list.
-pub fn inputs(says: &Answers) -> Vec<String> {
+/// The inputs of the whole list.
+pub fn inputs(asker: &Asker) -> Vec<String> {
     let mut list = List {
-        says,
+        asker,
         texts: Vec::new(),
         known: HashSet::new(),
     };
     let mut dice = Dice(15417);
     list.published();
     for text in DOCUMENTED.iter().chain(&DOCUMENT_01).chain(&EVERYDAY) {
-        list.ask(*text);
+        list.add(*text);
     }
     list.alone();
-    list.behind();
+    list.after_starts();
     list.strange();
     list.two();
     list.held();

@@ -1,0 +1,179 @@
+"""Makes crates/cases/stdin and crates/cases/stdout: calls of all seven jobs, and their answers.
+
+    python3 tools/cases/make.py
+
+The calls are the labels of document 01, and inputs on both sides of each limit. The answers come
+from ../examples/model.py, which is written from document 01 alone. Where document 01 gives the
+answer, it is written here by hand and the model must agree.
+
+A line of stdin has the letter of a job, the length of the lent buffer, and the input, all numbers
+in upper-case hex. The letters are E encode, D draw, R read, S spell, N scan, P pack and U unpack.
+
+The same line of stdout has the two numbers of the answer in decimal, and then every element of the
+buffer in hex: two digits for each, without blanks; or for spell, whose elements are code points,
+with a blank before each. Before the call every element is 77 (hex).
+"""
+import os
+import sys
+
+REPOSITORY = os.path.dirname(os.path.dirname(os.path.dirname(os.path.abspath(__file__))))
+sys.path.insert(0, os.path.join(REPOSITORY, "tools", "examples"))
+import model
+from model import refuse
+
+CODE128 = os.path.join(REPOSITORY, "rust", "barcoders", "src", "sym", "code128.rs")
+model.load_patterns(CODE128)
+JOBS = {"E": model.encode, "D": model.draw, "R": model.read, "S": model.spell, "N": model.scan,
+        "P": model.pack, "U": model.unpack}
+MOST, FULL = 2829, 0x77
+asked, answered = [], []
+
+
+def ask(job, room, values, want=None):
+    """Adds a line to each file; `want` is the answer where document 01 gives it."""
+    got = JOBS[job](room, list(values))
+    if want is not None:
+        assert (got if got[0] == "refuse" else got[:2]) == want, (job, values, got, want)
+    if got[0] == "refuse":
+        number, second, buffer = got[1], got[2], [FULL] * room
+    else:
+        number, second, buffer = 0, got[1], got[2] + [FULL] * (room - len(got[2]))
+    asked.append(" ".join([job, "%X" % room] + ["%X" % v for v in values]))
+    if job == "S":
+        shown = "".join(" %x" % v for v in buffer)
+    else:
+        shown = " " + "".join("%02x" % v for v in buffer)
+    answered.append("%d %d%s" % (number, second, shown))
+
+
+def P(text):
+    return [ord(c) for c in text]
+
+
+def done(n):
+    return ("accept", n)
+
+
+def near(job, values):
+    """Two buffers: one is an element too short, the other just long enough. If the input has at
+    most 400 elements, also a longer buffer and an empty one."""
+    need = len(JOBS[job](4000, list(values))[2])
+    rooms = {max(0, need - 1), need}
+    if len(values) <= 400:
+        rooms |= {need + 3, 0}
+    for room in sorted(rooms):
+        ask(job, room, values)
+
+
+def changed(values, place, value):
+    return values[:place] + [value] + values[place + 1:]
+
+
+def pattern(number):
+    return [int(d) for d in model.PATTERNS[number]]
+
+
+def replaced(row, block, number):
+    """The row with the pattern of a number in place of a block."""
+    return row[:11 * block] + pattern(number) + row[11 * block + 11:]
+
+
+# ---- encode: the labels of document 01
+ask("E", MOST, [], refuse(2, 0))
+ask("E", MOST, P("A"), refuse(2, 0))
+ask("E", MOST, P("À"), done(1))
+ask("E", MOST, P("€"), refuse(3, 0))
+ask("E", 60, P("Ć12"), done(2))
+ask("E", 60, P("Ć1Ź2"), done(3))
+ask("E", 60, P("ĆŹ12"), done(3))
+ask("E", 60, P("Ć1"), refuse(3, 2))
+ask("E", 60, P("Ć1À"), refuse(3, 2))
+ask("E", 60, P("ÀÀ"), refuse(3, 1))
+ask("E", 60, P("ÀĆ12"), done(3))
+ask("E", 60, P("ƁŽ"), done(2))
+ask("E", 60, P("ÀŽa"), refuse(3, 2))
+ask("E", 60, P("Ɓ÷"), done(2))
+ask("E", 60, P("Ɓ\x7f"), refuse(3, 1))
+ask("E", 60, [0x41, 0xD800], refuse(1, 1))
+ask("E", 60, [0x110000], refuse(1, 0))
+ask("E", MOST, P("Ɓ" + 254 * "A"), done(255))
+ask("E", MOST, P("Ɓ" + 255 * "A"), refuse(4, 256))
+ask("E", MOST, P("Ɓ" + 300 * "A" + "€"), refuse(3, 301))
+ask("E", MOST, P("Ć" + 254 * "37"), done(255))
+ask("E", 34, P("À"), refuse(5, 35))
+ask("E", 35, P("À"), done(1))
+# inputs near them: both sides of the scalar values, of the limit and of the buffer's length, and
+# the order of the refusals
+for c in (0xD7FF, 0xD800, 0xDFFF, 0xE000, 0x10FFFF, 0x110000, 0xFFFFFFF):
+    ask("E", 60, P("Ɓ") + [c])
+ask("E", 0, [0x7F])
+ask("E", 0, [0x80])
+ask("E", MOST + 3, P("Ć" + 254 * "99"))
+ask("E", MOST - 1, P("Ć" + 254 * "99"))
+ask("E", MOST, P("Ć" + 254 * "99" + "9"))
+ask("E", MOST, P("Ć" + 255 * "99"))
+ask("E", 0, P("Ɓ" + 255 * "A"))
+ask("E", 0, P("Ɓ" + 255 * "A" + "€"))
+ask("E", 0, P("Ɓ" + 255 * "A" + "€") + [0xD800])
+for label in ("À", "Ć12", "ƁAIM", "ƁAIMĆ1234", "ÀPJJ123C", "Ć1Ź2Ɓa÷ż", "À\x00\x1f _ŻźŽżŹĆ00ŹÀ"):
+    near("E", P(label))
+
+# ---- draw, spell and scan
+LISTS = [
+    [103], [104], [105, 12], [105, 102, 12], [103, 99, 12], [104, 98], [104, 95], [103, 95, 64, 63],
+    [105, 99, 0, 100, 95, 101, 33], [104, 33, 41, 45, 99, 12, 34],
+    [103, 96, 97, 98, 101, 102, 100, 96, 97, 98, 100, 102, 99, 98, 97, 96, 102, 101, 0],
+]
+LONG = [104] + 254 * [33]
+PAIRS = [105] + 254 * [99]
+for job in "DSN":
+    for symbols in LISTS + [LONG, PAIRS]:
+        near(job, symbols)
+    for bad in ([], LONG + [0], LONG + [200], [102], [106], [255], [103, 103], [105, 1, 2, 103],
+                [104, 102, 255], [0] + 256 * [255]):
+        ask(job, 0, bad)
+        ask(job, 40, bad)
+
+# ---- read
+for symbols in LISTS + [LONG, PAIRS]:
+    near("R", model.cells_of(symbols))
+ROW = model.cells_of([104, 33, 41, 45])
+END = len(ROW)
+for place, value in ((0, 2), (20, 255), (END - 1, 2), (3, 1 - ROW[3]), (13, 1 - ROW[13]),
+                     (45, 1 - ROW[45]), (END - 13, 0), (END - 7, 0), (END - 1, 0)):
+    ask("R", 10, changed(ROW, place, value))
+for block, number in ((0, 33), (0, 103), (0, 105), (1, 104), (2, 34), (3, 102), (4, 103), (4, 44)):
+    ask("R", 10, replaced(ROW, block, number))
+ask("R", 0, changed(changed(ROW, 45, 1 - ROW[45]), END - 1, 0))
+ask("R", 0, changed(replaced(ROW, 4, 44), END - 1, 0))
+for length in (0, 1, 24, 34, 36, 45, 2830):
+    ask("R", 5, length * [1])
+for blind in (103, 206):
+    ask("R", 255, replaced(model.cells_of(LONG), blind, 7))
+
+# ---- the row record
+for symbols in LISTS[:4] + [LONG]:
+    near("P", model.cells_of(symbols))
+    near("U", model.pack(4000, model.cells_of(symbols))[2])
+for row in (35 * [0], 35 * [1], 46 * [1], changed(35 * [1], 34, 2), changed(35 * [0], 0, 9),
+            34 * [0], 36 * [0], []):
+    ask("P", 12, row)
+ask("U", 40, [1, 0], refuse(22, 0))
+ask("U", 40, [2, 1], refuse(21, 2))
+ask("U", 40, [1], refuse(20, 1))
+ask("U", 40, [])
+RECORD = model.pack(40, model.cells_of([103]))[2]
+for place in range(len(RECORD)):
+    for value in (0, 1, 2, 31, 255):
+        ask("U", 40, changed(RECORD, place, value))
+for bit in range(8):
+    ask("U", 40, RECORD[:6] + [RECORD[6] ^ (1 << bit)])
+for record in (RECORD[:6], RECORD + [0], RECORD + [255], [1, 255] + 354 * [0],
+               [1, 255] + 354 * [255], [1, 255] + 353 * [0], [0, 1, 0, 0, 0, 0, 0]):
+    ask("U", 40, record)
+    ask("U", MOST, record)
+
+for name, lines in (("stdin", asked), ("stdout", answered)):
+    with open(os.path.join(REPOSITORY, "crates", "cases", name), "w", encoding="ascii") as f:
+        f.write("\n".join(lines) + "\n")
+print(len(asked), "lines")
