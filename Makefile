@@ -1,6 +1,6 @@
-# make          proves and builds the label program and the library
-# make install  puts them where a user wants them: make install PREFIX=/usr/local (DESTDIR is honoured)
-# make test     all tests
+# make          proves and builds the label program and the library, where anything changed
+# make install  installs them: make install PREFIX=/usr/local (DESTDIR is put before PREFIX)
+# make test     runs all tests
 PREFIX ?= /usr/local
 VERSION := 1.0.0
 

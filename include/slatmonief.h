@@ -1,18 +1,26 @@
-/* Code 128 rows: written, read, spelled, scanned, packed and unpacked, each call proved to do what is said here for every input.
+/* Code 128 rows: written, read, spelled, scanned, packed and unpacked. Each call is proved to do
+ * what this file says, for every input.
  *
  * Link with libslatmonief.a (x86-64 Linux). C99 and later, and C++.
  *
- * Every call answers two numbers by value. `number` is 0 where the input was accepted, else the number of the refusal; what `second` is then
- * stands beside each number below. An accepted call fills the front of the buffer and leaves every element behind that as it was. A refused
- * call leaves the whole buffer as it was. No call reserves memory, keeps a pointer or has state, so calls may be made from any number of threads.
+ * Words. A cell is a byte, 1 for bar and 0 for space. A symbol list is a START number (103, 104 or
+ * 105) and then data numbers 0 to 102, without the check; its length n is 1 to 255. A row has
+ * 11(n+1)+13 cells. Places count from 0.
  *
- * What the caller keeps, since C cannot check it:
- *   - each pointer is valid for as many elements as the length beside it says, and is not NULL, also where the length is 0;
+ * Answers. Every call returns two numbers by value:
+ *   - number is 0 where the call is accepted, and else the number of the refusal;
+ *   - second depends on number: the comment of each call says what it is after a 0 and, in a list,
+ *     after each refusal.
+ *
+ * Buffers. An accepted call fills the front of the lent buffer and leaves every element after that
+ * as it was. A refused call leaves the whole buffer as it was. No call reserves memory, keeps a
+ * pointer or has state, so any number of threads may call at once, each with a buffer of its own.
+ *
+ * What the caller has to keep, since C cannot check it:
+ *   - each pointer is valid for as many elements as the length beside it says, and is not NULL,
+ *     even where the length is 0;
  *   - input and output do not overlap;
- *   - lengths are numbers of elements (code points, cells, symbols, bytes), not of bytes.
- *
- * A cell is a byte, 1 for bar and 0 for space. A symbol list is a START number (103, 104 or 105) and then data numbers 0 to 102, without the
- * check; its length n is 1 to 255. A row has 11(n+1)+13 cells. Places count from 0.
+ *   - a length counts elements, not bytes: text_len is a number of 32-bit code points.
  */
 #ifndef SLATMONIEF_H
 #define SLATMONIEF_H
@@ -20,7 +28,8 @@
 #include <stddef.h>
 #include <stdint.h>
 
-/* Buffers of these lengths are never too short. */
+/* Buffers of these lengths are never too short: for the cells of a row, the symbols of a list, the
+ * code points that spell writes, the bytes that scan writes, and the bytes of a row record. */
 #define SLATMONIEF_MOST_CELLS 2829
 #define SLATMONIEF_MOST_SYMBOLS 255
 #define SLATMONIEF_MOST_CODE_POINTS 509
@@ -36,50 +45,90 @@ typedef struct {
     size_t second;
 } slatmonief_answer;
 
-/* Code points to a row. Accepted: second is n.
- * Refused, in this order, each over the whole input before the next:
- *   1  a value in D800..DFFF or above 10FFFF (hex)             its place
- *   2  the code points make fewer than two UTF-8 bytes         0
- *   3  a code point that has no number in its set, a switch    the place where parsing stops;
- *      with a digit held, or a digit left over at the end      the input's length for a digit left over
- *   4  more than 255 symbols                                   the symbols needed
- *   5  row_len too short                                       the cells needed */
+/* Encode: code points to a row. The first code point names the character set: U+00C0 for A, U+0181
+ * for B, U+0106 for C. Further on, the same three switch to another set.
+ * Accepted: second is n, and 11(n+1)+13 cells are written.
+ * Refused, in this order, each test over the whole input before the next:
+ *   number, when                                            second
+ *   1  a value in D800..DFFF or above 10FFFF (hex)          the place of the first
+ *   2  the code points make fewer than two UTF-8 bytes      0
+ *   3  parsing stops: the first code point names no set,    the place where parsing stops;
+ *      a code point has no number in the current set, a     text_len for a digit left over
+ *      switch comes while the first digit of a pair is
+ *      held, or such a digit is left over at the end
+ *   4  more than 255 symbols                                the symbols needed
+ *   5  row_len is too short                                 the cells needed
+ */
 slatmonief_answer slatmonief_encode(const uint32_t *text, size_t text_len, uint8_t *row, size_t row_len);
 
-/* A symbol list to a row. Accepted: second is n. Refused, in this order:
- *   10 no symbol, or more than 255                             symbols_len
- *   13 no START at place 0, or a number above 102 after it     the place of the first
- *   5  row_len too short                                       the cells needed */
+/* Draw: a symbol list to a row.
+ * Accepted: second is n, and 11(n+1)+13 cells are written.
+ * Refused, in this order:
+ *   number, when                                            second
+ *   10 no symbol, or more than 255                          symbols_len
+ *   13 no START at place 0, or a number above 102 after it  the place of the first
+ *   5  row_len is too short                                 the cells needed
+ */
 slatmonief_answer slatmonief_draw(const uint8_t *symbols, size_t symbols_len, uint8_t *row, size_t row_len);
 
-/* A row to its symbol list. Accepted: second is n. Refused, in this order:
- *   10 a row length that no row has                            row_len
- *   11 a cell neither 0 nor 1                                  the place of the first
- *   12 a block of 11 cells that is none of the 106 patterns    the block, 0 the START, n the check
- *   13 no START at block 0, or a number above 102 after it     the block (at each block 12 before 13, from the left)
- *   15 the last 13 cells are not the stop                      the place in the row of the first wrong cell
- *   14 a wrong check                                           the check that would be right
- *   5  symbols_len too short                                   n */
+/* Read: a row to its symbol list. A block is eleven cells: block 0 is the START, block n the check.
+ * Accepted: second is n, and n symbols are written.
+ * Refused, in this order:
+ *   number, when                                            second
+ *   10 a length that no row has                             row_len
+ *   11 a cell neither 0 nor 1                               the place of the first
+ *      then block by block from the left, 12 before 13:
+ *   12 a block that is none of the 106 patterns             the block
+ *   13 no START at block 0, or a number above 102 after it  the block
+ *      and then:
+ *   15 the last 13 cells are not the stop                   the place of the first wrong cell,
+ *                                                           counted from the start of the row
+ *   14 the check is wrong                                   the check that would be right
+ *   5  symbols_len is too short                             n
+ */
 slatmonief_answer slatmonief_read(const uint8_t *row, size_t row_len, uint8_t *symbols, size_t symbols_len);
 
-/* A symbol list to the one text that encodes to it with no FNC1 inside a pair. Accepted: second is the code points written.
- * Refused: 10, 13 as slatmonief_draw; 5 text_len too short (the code points needed). */
+/* Spell: a symbol list to the one text that encodes to it with no FNC1 (U+0179) inside a pair.
+ * Accepted: second is the number of code points written.
+ * Refused, in this order:
+ *   number, when                                            second
+ *   10 no symbol, or more than 255                          symbols_len
+ *   13 no START at place 0, or a number above 102 after it  the place of the first
+ *   5  text_len is too short                                the code points needed
+ */
 slatmonief_answer slatmonief_spell(const uint8_t *symbols, size_t symbols_len, uint32_t *text, size_t text_len);
 
-/* A symbol list to the 7-bit bytes that a scanner sends. Accepted: second is the bytes written.
- * Refused: 10, 13 as slatmonief_draw; 5 bytes_len too short (the bytes needed). */
+/* Scan: a symbol list to the 7-bit bytes that a scanner sends.
+ * Accepted: second is the number of bytes written.
+ * Refused, in this order:
+ *   number, when                                            second
+ *   10 no symbol, or more than 255                          symbols_len
+ *   13 no START at place 0, or a number above 102 after it  the place of the first
+ *   5  bytes_len is too short                               the bytes needed
+ */
 slatmonief_answer slatmonief_scan(const uint8_t *symbols, size_t symbols_len, uint8_t *bytes, size_t bytes_len);
 
-/* A row's cells to a row record; the row need not be readable. Accepted: second is the bytes written.
- * Refused: 10, 11 as slatmonief_read; 5 record_len too short (the bytes needed). */
+/* Pack: the cells of a row to a row record. The row need not be readable.
+ * Accepted: second is the number of bytes written.
+ * Refused, in this order:
+ *   number, when                                            second
+ *   10 a length that no row has                             row_len
+ *   11 a cell neither 0 nor 1                               the place of the first
+ *   5  record_len is too short                              the bytes needed
+ */
 slatmonief_answer slatmonief_pack(const uint8_t *row, size_t row_len, uint8_t *record, size_t record_len);
 
-/* A row record to its cells. Accepted: second is the cells written. Refused, in this order:
- *   20 a record under 2 bytes                                  record_len
- *   21 a version byte that is not 1                            that byte
- *   22 a count of 0, or a length that is not what it needs     the length needed, 0 for a count of 0
- *   23 a spare bit set                                         the place of the last byte
- *   5  row_len too short                                       the cells needed */
+/* Unpack: a row record to its cells.
+ * Accepted: second is the number of cells written.
+ * Refused, in this order:
+ *   number, when                                            second
+ *   20 a record of fewer than 2 bytes                       record_len
+ *   21 a version byte that is not 1                         that byte
+ *   22 a count of 0, or a record_len that is not what the   the length needed, 0 for a count of 0
+ *      count needs
+ *   23 a spare bit is set                                   the place of the last byte
+ *   5  row_len is too short                                 the cells needed
+ */
 slatmonief_answer slatmonief_unpack(const uint8_t *record, size_t record_len, uint8_t *row, size_t row_len);
 
 #ifdef __cplusplus

@@ -1,9 +1,13 @@
-/* What the image pipeline does with a capture: the record is unpacked and the row read, and a malformed capture is told apart by its numbers.
- * Nothing is reserved for a size that a capture merely declares: the buffers are of the limit's size, on the stack. */
+/* What the image pipeline does with a capture: it unpacks the record and reads the row. Where the
+ * capture is malformed, the two numbers of the refusal say what is wrong.
+ *
+ * No memory is reserved for a size that a capture merely declares: the buffers have the size of the
+ * limit and are on the stack. */
 #include <stdio.h>
 
 #include "slatmonief.h"
 
+/* Shows what one capture gives. */
 static void show(const char *name, const uint8_t *record, size_t length)
 {
     uint8_t row[SLATMONIEF_MOST_CELLS];
@@ -35,7 +39,7 @@ int main(void)
 
     show("as packed", record, length);
 
-    record[1] = 255; /* a capture that declares far more than it has */
+    record[1] = 255; /* a capture that declares far more symbols than it has */
     show("declares 255 symbols", record, length);
     record[1] = 0;
     show("declares none", record, length);
@@ -44,7 +48,7 @@ int main(void)
     record[0] = 2;
     show("another version", record, length);
     record[0] = 1;
-    record[4] ^= 0x10; /* one worn cell */
+    record[4] ^= 0x10; /* a worn cell: its bit is flipped */
     show("one cell flipped", record, length);
     return 0;
 }
