@@ -8,6 +8,13 @@ fn main() {
         PathBuf::from(env::var("CARGO_MANIFEST_DIR").expect("cargo sets CARGO_MANIFEST_DIR"));
     let folder = match env::var("SLATMONIEF_LIB_DIR") {
         Ok(folder) => PathBuf::from(folder),
+        Err(_) if env::var("CARGO_CFG_TARGET_ARCH").as_deref() != Ok("x86_64") => {
+            eprintln!("slatmonief: the library is for x86-64 Linux, and this is another machine.");
+            eprintln!("For tests, a script builds a bridge to it and prints the bridge's folder:");
+            let script = here.join("../../tests/library");
+            eprintln!("    SLATMONIEF_LIB_DIR=$({}) cargo test", script.display());
+            std::process::exit(1);
+        }
         Err(_) => here.join("../../target/staticlib"),
     };
     let library = folder.join("libslatmonief.a");

@@ -1,0 +1,57 @@
+/* Calls the job JOB of the library TIMES times on a label of SYMBOLS symbols in set B, and ends. tools/before/count
+   compiles it for x86-64 without a C library, so that what is counted is the library's. */
+typedef __UINT8_TYPE__ byte;
+typedef __UINT32_TYPE__ point;
+typedef __SIZE_TYPE__ size;
+typedef struct { point number; size second; } answer;
+answer slatmonief_encode(const point *, size, byte *, size);
+answer slatmonief_draw(const byte *, size, byte *, size);
+answer slatmonief_read(const byte *, size, byte *, size);
+answer slatmonief_spell(const byte *, size, point *, size);
+answer slatmonief_scan(const byte *, size, byte *, size);
+answer slatmonief_pack(const byte *, size, byte *, size);
+answer slatmonief_unpack(const byte *, size, byte *, size);
+
+enum { ENCODE, DRAW, READ, SPELL, SCAN, PACK, UNPACK, CELLS = 11 * SYMBOLS + 24 };
+static point text[SYMBOLS], points[600];
+static byte symbols[SYMBOLS], row[CELLS], record[400], list[255], cells[2829], bytes[600];
+
+void *memcpy(void *to, const void *from, size n) {
+    void *begin = to;
+    __asm__ volatile("rep movsb" : "+D"(to), "+S"(from), "+c"(n) : : "memory");
+    return begin;
+}
+
+__attribute__((noreturn)) static void leave(int status) {
+    for (;;) __asm__ volatile("syscall" : : "a"(231), "D"(status) : "rcx", "r11", "memory");
+}
+
+static answer call(int job, size record_len) {
+    switch (job) {
+    case ENCODE: return slatmonief_encode(text, SYMBOLS, cells, sizeof cells);
+    case DRAW: return slatmonief_draw(symbols, SYMBOLS, cells, sizeof cells);
+    case READ: return slatmonief_read(row, CELLS, list, sizeof list);
+    case SPELL: return slatmonief_spell(symbols, SYMBOLS, points, 600);
+    case SCAN: return slatmonief_scan(symbols, SYMBOLS, bytes, sizeof bytes);
+    case PACK: return slatmonief_pack(row, CELLS, bytes, sizeof bytes);
+    default: return slatmonief_unpack(record, record_len, cells, sizeof cells);
+    }
+}
+
+__attribute__((used)) void run(void) {
+    point x = 7;
+    symbols[0] = 104;
+    text[0] = 0x181;
+    for (int i = 1; i < SYMBOLS; i++) {
+        x = x * 1103515245u + 12345u;
+        symbols[i] = (x >> 16) % 64;
+        text[i] = 0x20 + symbols[i];
+    }
+    slatmonief_draw(symbols, SYMBOLS, row, CELLS);
+    size record_len = slatmonief_pack(row, CELLS, record, sizeof record).second;
+    for (int i = 0; i < TIMES; i++)
+        if (call(JOB, record_len).number != 0) leave(1);
+    leave(0);
+}
+
+__asm__(".globl _start\n_start: xor %ebp, %ebp\n and $-16, %rsp\n call run\n");
