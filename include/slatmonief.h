@@ -77,14 +77,21 @@ slatmonief_answer slatmonief_draw(const uint8_t *symbols, size_t symbols_len, ui
  *   number, when                                            second
  *   10 a length that no row has                             row_len
  *   11 a cell neither 0 nor 1                               the place of the first
- *      then block by block from the left, 12 before 13:
- *   12 a block that is none of the 106 patterns             the block
+ *      then block by block from the left, 12 or 16 before 13:
+ *   12 a block that is none of the 106 patterns, with an    the block
+ *      even number of bar cells: print again
+ *   16 a block that is none of the 106 patterns, with an    the block
+ *      odd number of bar cells: one worn cell gives this;
+ *      photograph again
  *   13 no START at block 0, or a number above 102 after it  the block
  *      and then:
  *   15 the last 13 cells are not the stop                   the place of the first wrong cell,
  *                                                           counted from the start of the row
  *   14 the check is wrong                                   the check that would be right
  *   5  symbols_len is too short                             n
+ * An accepted row with one worn cell (bar for space, or space for bar) is always refused: by 15
+ * where that is one of the last 13 cells, and else by 16. More worn cells can give 16 too. A row
+ * taken upside down is refused by 12 at block 0.
  */
 slatmonief_answer slatmonief_read(const uint8_t *row, size_t row_len, uint8_t *symbols, size_t symbols_len);
 

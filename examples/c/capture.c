@@ -1,11 +1,22 @@
 /* What the image pipeline does with a capture: it unpacks the record and reads the row. Where the
- * capture is malformed, the two numbers of the refusal say what is wrong.
+ * capture is malformed, the two numbers of the refusal say what is wrong. Where a block of the row
+ * is no pattern, they also say whether to photograph the label again or to print it again.
  *
  * No memory is reserved for a size that a capture merely declares: the buffers have the size of the
  * limit and are on the stack. */
 #include <stdio.h>
 
 #include "slatmonief.h"
+
+/* What an operator does after a refusal of read, in words; the second number is the block. */
+static const char *advice(uint32_t number)
+{
+    switch (number) {
+    case 16: return ": photograph again"; /* one worn cell gives this */
+    case 12: return ": print again";
+    default: return "";
+    }
+}
 
 /* Shows what one capture gives. */
 static void show(const char *name, const uint8_t *record, size_t length)
@@ -20,7 +31,8 @@ static void show(const char *name, const uint8_t *record, size_t length)
     }
     a = slatmonief_read(row, a.second, symbols, sizeof symbols);
     if (a.number != 0) {
-        printf("%s: read refused by %u, %zu\n", name, (unsigned)a.number, a.second);
+        printf("%s: read refused by %u, %zu%s\n", name, (unsigned)a.number, a.second,
+               advice(a.number));
         return;
     }
     size_t n = a.second;
@@ -48,7 +60,10 @@ int main(void)
     record[0] = 2;
     show("another version", record, length);
     record[0] = 1;
-    record[4] ^= 0x10; /* a worn cell: its bit is flipped */
+    record[4] ^= 0x10; /* a worn cell, in block 1: its bit is flipped */
     show("one cell flipped", record, length);
+    record[3] ^= 0x08; /* one more in the same block. Here no pattern is left; two flipped cells can
+                          also leave the pattern of another number, and then 13 or 14 follows. */
+    show("two cells of a block flipped", record, length);
     return 0;
 }

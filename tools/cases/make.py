@@ -2,9 +2,10 @@
 
     python3 tools/cases/make.py
 
-The calls are the labels of document 01, and inputs on both sides of each limit. The answers come
-from ../examples/model.py, which is written from document 01 alone. Where document 01 gives the
-answer, it is written here by hand and the model must agree.
+The calls are the labels of document 01, inputs on both sides of each limit, and the damaged rows of
+request 3 of document 02. The answers come from ../examples/model.py, which is written from these
+documents alone. Where a document gives the answer, it is written here by hand and the model must
+agree.
 
 A line of stdin has the letter of a job, the length of the lent buffer, and the input, all numbers
 in upper-case hex. The letters are E encode, D draw, R read, S spell, N scan, P pack and U unpack.
@@ -30,7 +31,7 @@ asked, answered = [], []
 
 
 def ask(job, room, values, want=None):
-    """Adds a line to each file; `want` is the answer where document 01 gives it."""
+    """Adds a line to each file; `want` is the answer where a document gives it."""
     got = JOBS[job](room, list(values))
     if want is not None:
         assert (got if got[0] == "refuse" else got[:2]) == want, (job, values, got, want)
@@ -73,9 +74,19 @@ def pattern(number):
     return [int(d) for d in model.PATTERNS[number]]
 
 
+def put(row, block, cells):
+    """The row with eleven cells in place of a block."""
+    return row[:11 * block] + cells + row[11 * block + 11:]
+
+
 def replaced(row, block, number):
     """The row with the pattern of a number in place of a block."""
-    return row[:11 * block] + pattern(number) + row[11 * block + 11:]
+    return put(row, block, pattern(number))
+
+
+def flipped(row, *places):
+    """The row with these cells flipped."""
+    return [1 - c if place in places else c for place, c in enumerate(row)]
 
 
 # ---- encode: the labels of document 01
@@ -139,17 +150,46 @@ for symbols in LISTS + [LONG, PAIRS]:
     near("R", model.cells_of(symbols))
 ROW = model.cells_of([104, 33, 41, 45])
 END = len(ROW)
-for place, value in ((0, 2), (20, 255), (END - 1, 2), (3, 1 - ROW[3]), (13, 1 - ROW[13]),
-                     (45, 1 - ROW[45]), (END - 13, 0), (END - 7, 0), (END - 1, 0)):
-    ask("R", 10, changed(ROW, place, value))
+for place, value in ((0, 2), (20, 255), (END - 1, 2)):
+    ask("R", 10, changed(ROW, place, value), refuse(11, place))
+for place, block in ((3, 0), (13, 1), (45, 4)):
+    ask("R", 10, flipped(ROW, place), refuse(16, block))
+for place in (END - 13, END - 7, END - 1):
+    ask("R", 10, changed(ROW, place, 0), refuse(15, place))
 for block, number in ((0, 33), (0, 103), (0, 105), (1, 104), (2, 34), (3, 102), (4, 103), (4, 44)):
     ask("R", 10, replaced(ROW, block, number))
-ask("R", 0, changed(changed(ROW, 45, 1 - ROW[45]), END - 1, 0))
+ask("R", 0, flipped(ROW, 45, END - 1), refuse(16, 4))
 ask("R", 0, changed(replaced(ROW, 4, 44), END - 1, 0))
 for length in (0, 1, 24, 34, 36, 45, 2830):
     ask("R", 5, length * [1])
 for blind in (103, 206):
     ask("R", 255, replaced(model.cells_of(LONG), blind, 7))
+# Request 3 of document 02: 16 for a block that is no pattern and has an odd number of bar cells,
+# and 12 for an even number. One cell flipped in START, data and check, into no element, into three
+# and into the four that the row needs; and in the stop.
+for place, block in ((0, 0), (32, 2), (54, 4)):
+    for room in (0, 3, 4):
+        ask("R", room, flipped(ROW, place), refuse(16, block))
+ask("R", 4, flipped(ROW, 57), refuse(15, 57))
+# the block further left is answered, whether 16, 12 or 13
+NO_BAR, ALL_BAR = 11 * [0], 11 * [1]
+ask("R", 4, put(put(ROW, 0, ALL_BAR), 4, NO_BAR), refuse(16, 0))
+ask("R", 4, put(put(ROW, 0, NO_BAR), 4, ALL_BAR), refuse(12, 0))
+ask("R", 4, put(put(ROW, 1, ALL_BAR), 2, NO_BAR), refuse(16, 1))
+ask("R", 4, put(put(ROW, 1, NO_BAR), 2, ALL_BAR), refuse(12, 1))
+ask("R", 4, replaced(flipped(ROW, 3), 4, 103), refuse(16, 0))
+ask("R", 4, replaced(flipped(ROW, 45), 0, 33), refuse(13, 0))
+ask("R", 4, replaced(flipped(ROW, 13), 2, 103), refuse(16, 1))
+ask("R", 4, replaced(flipped(ROW, 25), 1, 104), refuse(13, 1))
+ask("R", 4, flipped(ROW, 13, 45), refuse(16, 1))
+# two cells flipped in one block, which makes no pattern here; 11 first; blocks of bar and of space
+for place, block in ((0, 0), (20, 1), (44, 4)):
+    ask("R", 4, flipped(ROW, place, place + 1), refuse(12, block))
+ask("R", 4, changed(flipped(ROW, 0), END - 1, 2), refuse(11, 67))
+ask("R", 4, 35 * [1], refuse(16, 0))
+ask("R", 4, 35 * [0], refuse(12, 0))
+# in the data place 103, where another number is not noticed
+ask("R", 104, flipped(model.cells_of(LONG[:104]), 1133), refuse(16, 103))
 
 # ---- the row record
 for symbols in LISTS[:4] + [LONG]:
@@ -173,6 +213,8 @@ for record in (RECORD[:6], RECORD + [0], RECORD + [255], [1, 255] + 354 * [0],
     ask("U", 40, record)
     ask("U", MOST, record)
 
+# the program reads no more than 131,072 bytes
+assert sum(len(line) + 1 for line in asked) <= 131072
 for name, lines in (("stdin", asked), ("stdout", answered)):
     with open(os.path.join(REPOSITORY, "crates", "cases", name), "w", encoding="ascii") as f:
         f.write("\n".join(lines) + "\n")

@@ -2,9 +2,9 @@
 
     python3 tools/examples/make.py
 
-The expected values come from the crate barcoders, from document 01 by hand, or from the standard as
-we know it; model.py must agree with every one that is the answer of a job. The package rust/answers
-asks the crate: cargo builds and runs it. Nothing here reads the definitions in specs/.
+The expected values come from the crate barcoders, from documents 01 and 02 by hand, or from the
+standard as we know it; model.py must agree with every one that is the answer of a job. The package
+rust/answers asks the crate: cargo builds and runs it. Nothing here reads the definitions in specs/.
 """
 import os
 import random
@@ -553,7 +553,8 @@ the first cell neither 0 nor 1.
     (("replicate 34 0", [0] * 34), 255, refuse(10, 34)),
     (("replicate 36 0", [0] * 36), 255, refuse(10, 36)),
     (("replicate 47 1", [1] * 47), 255, refuse(10, 47)),
-    (("replicate 2829 1", [1] * 2829), 255, refuse(12, 0)),
+    (("replicate 2829 0", [0] * 2829), 255, refuse(12, 0)),
+    (("replicate 2829 1", [1] * 2829), 255, refuse(16, 0)),
     (("replicate 2830 1", [1] * 2830), 255, refuse(10, 2830)),
     (("replicate 2840 1", [1] * 2840), 255, refuse(10, 2840)),
     (("replicate 34 2", [2] * 34), 0, refuse(10, 34)),
@@ -566,27 +567,29 @@ the first cell neither 0 nor 1.
     (rows(103, stop="") + " " + STOP, 255, refuse(10, 24)),
     (rows(103, put(PATTERNS[0], 3, "2")), 255, refuse(11, 14)),
     (rows(ZERO, put(PATTERNS[0], 10, "2")), 255, refuse(11, 21)),
+    (rows(ONES, put(PATTERNS[0], 10, "2")), 255, refuse(11, 21)),
     (rows(33, 103, stop=put(STOP, 12, "2")), 255, refuse(11, 34)),
     (rows(103, 0, stop=put(STOP, 0, "2")), 0, refuse(11, 22)),
     (rows(put(PA, 0, "2"), put(PATTERNS[0], 5, "3")), 255, refuse(11, 0)),
     (rows(103, 99, put(PATTERNS[99], 1, "2"), stop=put(STOP, 3, "2")), 255, refuse(11, 23)),
 ])
 reading("readBlocks", """
-Refusals 12 and 13, by hand: the first block from the left that is no pattern, or that is not a
-START at block 0, or that is above 102 after it. They come before 15, 14 and 5.
+Refusals 12, 16 and 13, by hand: the first block from the left that is no pattern, 16 where its
+number of bar cells is odd and else 12; or that is not a START at block 0, or that is above 102
+after it. They come before 15, 14 and 5.
 """, [
-    (rows(flip(PA, 10), 0), 255, refuse(12, 0)),
+    (rows(flip(PA, 10), 0), 255, refuse(16, 0)),
     (rows(ZERO, 0), 255, refuse(12, 0)),
-    (rows(ONES, 0), 255, refuse(12, 0)),
+    (rows(ONES, 0), 255, refuse(16, 0)),
     (rows(NONE, 0), 255, refuse(12, 0)),
     (rows(PA[::-1], 0), 255, refuse(12, 0)),
-    (rows(103, flip(PATTERNS[0], 4)), 255, refuse(12, 1)),
+    (rows(103, flip(PATTERNS[0], 4)), 255, refuse(16, 1)),
     (rows(103, NONE), 255, refuse(12, 1)),
-    (rows(105, flip(PATTERNS[12], 1), 14), 255, refuse(12, 1)),
+    (rows(105, flip(PATTERNS[12], 1), 14), 255, refuse(16, 1)),
     (rows(105, 12, ZERO), 255, refuse(12, 2)),
-    (rows(105, 12, flip(PATTERNS[14], 9)), 255, refuse(12, 2)),
-    (rows(104, 33, 41, ONES, 45), 255, refuse(12, 3)),
-    (rows(104, 33, 41, 45, ONES), 0, refuse(12, 4)),
+    (rows(105, 12, flip(PATTERNS[14], 9)), 255, refuse(16, 2)),
+    (rows(104, 33, 41, ONES, 45), 255, refuse(16, 3)),
+    (rows(104, 33, 41, 45, ONES), 0, refuse(16, 4)),
     (rows(0, 0), 255, refuse(13, 0)),
     (rows(102, 0), 255, refuse(13, 0)),
     (rows(33, 41, 45), 255, refuse(13, 0)),
@@ -609,6 +612,44 @@ START at block 0, or that is above 102 after it. They come before 15, 14 and 5.
     (rows(103, ZERO, stop=ZERO + "00"), 255, refuse(12, 1)),
     (rows(33, 0, stop=flip(STOP, 0)), 255, refuse(13, 0)),
 ])
+# for each number of bar cells from 0 to 11, a block with all its bar cells in front, which is no pattern
+cases = [(rows(103, "1" * k + "0" * (11 - k)), 255, refuse(number, 1))
+         for k, number in enumerate((12, 16, 12, 16, 12, 16, 12, 16, 12, 16, 12, 16))]
+cases += [
+    # two cells flipped in a pattern: no pattern, or another pattern
+    (rows(flip(flip(PA, 9), 10), 0), 255, refuse(12, 0)),
+    (rows(105, flip(flip(PATTERNS[12], 0), 1), 14), 255, refuse(12, 1)),
+    (rows(105, 12, flip(flip(PATTERNS[14], 9), 10)), 255, refuse(12, 2)),
+    (rows(flip(flip(PA, 6), 8), 0), 255, refuse(14, 1)),
+    (rows(105, flip(flip(PATTERNS[12], 1), 2), 14), 255, refuse(13, 1)),
+    # three in a pattern, and one in each of two patterns
+    (rows(flip(flip(flip(PA, 0), 1), 2), 0), 255, refuse(16, 0)),
+    (rows(105, flip(PATTERNS[12], 10), flip(PATTERNS[14], 0)), 255, refuse(16, 1)),
+    # both 12 and 16 apply: the one further left is answered
+    (rows(ONES, ZERO), 255, refuse(16, 0)),
+    (rows(ZERO, ONES), 255, refuse(12, 0)),
+    (rows(105, ONES, NONE), 255, refuse(16, 1)),
+    (rows(105, NONE, ONES), 255, refuse(12, 1)),
+    (rows(104, 33, flip(PATTERNS[41], 4), ZERO, 45), 255, refuse(16, 2)),
+    (rows(104, 33, ZERO, flip(PATTERNS[45], 4), 45), 255, refuse(12, 2)),
+    # both 13 and 16
+    (rows(ONES, 103), 255, refuse(16, 0)),
+    (rows(33, ONES), 255, refuse(13, 0)),
+    (rows(105, flip(PATTERNS[12], 5), 103), 255, refuse(16, 1)),
+    (rows(105, 103, flip(PATTERNS[14], 5)), 255, refuse(13, 1)),
+    # in the check's place, before 15, 14 and 5
+    (rows(103, flip(PATTERNS[0], 10)), 0, refuse(16, 1)),
+    (rows(103, flip(PATTERNS[1], 10)), 255, refuse(16, 1)),
+    (rows(105, 13, flip(PATTERNS[14], 0)), 1, refuse(16, 2)),
+    (rows(103, flip(PATTERNS[0], 0), stop=ZERO + "00"), 255, refuse(16, 1)),
+    (rows(flip(PA, 0), 1, stop=flip(STOP, 0)), 0, refuse(16, 0)),
+]
+assert all(p.count("1") % 2 == 0 for p in PATTERNS)
+reading("readWorn", """
+Refusal 16 and its neighbours, by hand from request 3 of document 02: a block that is no pattern is
+answered 16 where its number of bar cells is odd. Every pattern has an even number, so one cell
+flipped in a pattern makes 16, and two make 12 or another pattern.
+""", cases)
 cases = [(rows(103, 0, stop=flip(STOP, i)), 255, refuse(15, 22 + i)) for i in range(13)]
 cases += [(rows(105, 12, 14, stop=flip(STOP, i)), 255, refuse(15, 33 + i)) for i in (0, 6, 12)]
 cases += [(rows(103, 0, stop=ZERO + "00"), 255, refuse(15, 22)), (rows(103, 0, stop=ONES + "11"), 255, refuse(15, 24)),
@@ -864,6 +905,9 @@ for job, given, before, number, second, after in [
     ("draw", shown_list(105, 2), shown_list(3), 5, 46, shown_list(3)),
     ("read", shown_cells(ROW_A), shown_list(1, 2, 3), 0, 1, shown_list(103, 2, 3)),
     ("read", shown_cells(ROW_A[:-1] + "0"), shown_list(1, 2, 3), 15, 34, shown_list(1, 2, 3)),
+    ("read", shown_cells("0" + ROW_A[1:]), shown_list(1, 2, 3), 16, 0, shown_list(1, 2, 3)),
+    ("read", shown_cells(ROW_A[:21] + "1" + ROW_A[22:]), shown_list(9), 16, 1, shown_list(9)),
+    ("read", shown_cells(ROW_A[:21] + "1" + ROW_A[22:]), shown_list(), 16, 1, shown_list()),
     ("spell", shown_list(105, 12), shown_list(8, 8, 8, 8, 8), 0, 3, ("Ć ∷ 49 ∷ 50 ∷ 8 ∷ 8 ∷ []", P("Ć12") + [8, 8])),
     ("scan", shown_list(105, 12), shown_list(8, 8, 8, 8, 8), 0, 2, shown_list(49, 50, 8, 8, 8)),
     ("scan", shown_list(103), shown_list(8, 9), 0, 0, shown_list(8, 9)),
@@ -911,13 +955,37 @@ By hand: refusal 13 where the new number may not stand; an acceptance at the dat
 """, entries, each=2)
 states("redrawings-hold", "map ruled redrawings ≡ map twice redrawings")
 
+# ================================================================ j. one cell flipped
+
+title("j. one cell flipped")
+PAIR, AIM = [105, 12], [104, 33, 41, 45]
+cases = [([103], i, refuse(16, 0)) for i in range(11)] + [([103], i, refuse(16, 1)) for i in range(11, 22)]
+cases += [([103], i, refuse(15, i)) for i in range(22, 35)]
+# START, data, check and stop
+cases += [(PAIR, i, refuse(16, b)) for i, b in ((0, 0), (10, 0), (11, 1), (21, 1), (22, 2), (32, 2))]
+cases += [(AIM, i, refuse(16, b)) for i, b in ((5, 0), (12, 1), (27, 2), (43, 3), (44, 4), (54, 4))]
+cases += [(s, i, refuse(15, i)) for s, i in ((PAIR, 33), (PAIR, 45), (AIM, 55), (AIM, 61), (AIM, 67))]
+entries = []
+for s, i, answer in cases:
+    cells = good(s)
+    cells[i] = 1 - cells[i]
+    assert model.read(255, cells) == model.read(0, cells) == answer, (s, i, answer)
+    entries.append("(%s) flippedAt %d gives refuse %d %d" % (listed(s), i, *answer[1:]))
+table("j", "flippings", "Flipped", """
+By hand from request 3 of document 02: refusal 16 with the block of the flipped cell, or 15 with its
+place in the stop, whatever the length of the buffer. First every cell of one row; then cells in the
+START, in data, in the check and in the stop of others.
+""", entries, each=3)
+states("flippings-hold", "map flips flippings ≡ map thrice flippings")
+
 # ================================================================ the files
 
-HEAD = '''-- Answers from outside that the definitions in specs/ are held to: from document 01 by hand, from
--- the standard as we know it, and from the crate when it is run. Where a comment says "by hand", a
--- Python program written from document 01 alone gave the same answer (tools/examples/model.py).
--- Only proofs use these tables: Against.antt proves by computation that the definitions give every
--- answer in them. Nobody needs to audit them to know what is promised: that is in specs/.
+HEAD = '''-- Answers from outside that the definitions in specs/ are held to: from documents 01 and 02 by
+-- hand, from the standard as we know it, and from the crate when it is run. Where a comment says
+-- "by hand", a Python program written from these documents alone gave the same answer
+-- (tools/examples/model.py). Only proofs use these tables: Against.antt proves by computation that
+-- the definitions give every answer in them. Nobody needs to audit them to know what is promised:
+-- that is in specs/.
 -- tools/examples makes this file. Assumes nothing.
 use Prim.Native.Nat.{ℕ, zero, suc, _+_, _-_, _*_, _/_, _%_}
 use Prim.Native.String.{String}
@@ -931,7 +999,7 @@ use Rattle.paper.specs.Crate.{À, Ɓ, Ć, Parsed, symbols, parse}
 use Rattle.paper.specs.Settle.{settle, inside}
 use Rattle.paper.specs.Jobs.{encode, draw, read, spell, scan, pack, unpack}
 use Rattle.paper.specs.Labels.{Label, _⇒_}
-use Rattle.paper.specs.Damage.{redrawn, verdict}
+use Rattle.paper.specs.Damage.{redrawn, verdict, flipped, flippedVerdict}
 use Rattle.paper.proofs.Computes.{settle-computes, chars-computes, rules-computes, damage-computes}
 
 -- ---- how the tables are written
@@ -993,6 +1061,7 @@ infix 15 _is_checked_sends_
 infix 15 _spells_scans_draws_
 infix 15 _becomes_
 infix 15 _at_drawn_gives_
+infix 15 _flippedAt_gives_
 -- a job's input, the number of elements of the lent buffer, and the answer
 pub data Example : Type 0 where
   _into_gives_ : List ℕ → ℕ → Answer → Example
@@ -1071,6 +1140,18 @@ ruled (s at i drawn m gives a) = verdict s i m ∷ read 255 (redrawn i m (row s)
 unfoldable pub twice : Redrawn → List Answer
 twice (s at i drawn m gives a) = a ∷ a ∷ []
 
+-- a symbol list, the place of a cell of its row that is flipped, and what read answers then:
+-- `flippedVerdict` must say the same, and so must `read` of the changed row, into 255 elements and
+-- into none
+pub data Flipped : Type 0 where
+  _flippedAt_gives_ : List ℕ → ℕ → Answer → Flipped
+
+unfoldable pub flips : Flipped → List Answer
+flips (s flippedAt i gives a) = flippedVerdict s i ∷ read 255 (flipped i (row s)) ∷ read 0 (flipped i (row s)) ∷ []
+
+unfoldable pub thrice : Flipped → List Answer
+thrice (s flippedAt i gives a) = a ∷ a ∷ a ∷ []
+
 -- a job, its input and the buffer lent to it; then the answer number, the second number and what
 -- the buffer holds after the call
 pub data Buffer : Type 0 where
@@ -1099,9 +1180,9 @@ PROOFS = """-- The definitions give every answer in the tables of Examples.antt,
 -- tools/examples makes this file. Assumes nothing.
 use mathlib.Core.Path.{_≡_, refl}
 use mathlib.Core.List.{map}
-use Rattle.paper.specs.Iso15417.{cells, count, stop}
+use Rattle.paper.specs.Iso15417.{barCells, cells, count, stop}
 use Rattle.paper.specs.Chars.{chars}
-use Rattle.paper.specs.Rules.{runs, barCells}
+use Rattle.paper.specs.Rules.{runs}
 use Rattle.paper.specs.Jobs.{encode, draw, read, spell, scan, pack, unpack}
 use Rattle.paper.specs.Labels.{answered, expected}
 %s

@@ -1,4 +1,5 @@
-"""The seven jobs of document 01, written from its text alone: not from the crate, nor from specs/.
+"""The seven jobs of document 01 as request 3 of document 02 changes them, written from those texts
+alone: not from the crate, nor from specs/.
 
 Only the bar patterns come from elsewhere: from the crate's `CHARS`, as document 01 says. An answer
 is ("refuse", number, second) or ("accept", second, list). `room` is the number of elements of the
@@ -172,7 +173,7 @@ def read(room, cells):
     for b in range(n + 1):
         block = text[11 * b:11 * b + 11]
         if block not in PATTERNS:
-            return refuse(12, b)
+            return refuse(16 if block.count("1") % 2 == 1 else 12, b)
         m = PATTERNS.index(block)
         if (m < 103) == (b == 0):
             return refuse(13, b)

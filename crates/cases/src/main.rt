@@ -1,8 +1,8 @@
 // Runs calls of all seven jobs, one for each line of its input, and writes what each answers and
-// what the lent buffer then holds: the labels of document 01 and their neighbours. It is no label
-// program (crates/label is that): it shows what the label program cannot, the other jobs and
-// every element of lent memory. A line has a job's letter, the buffer's length and the input, in
-// upper-case hex:
+// what the lent buffer then holds: the labels of document 01 and their neighbours, and damaged
+// rows. It is no label program (crates/label is that): it shows what the label program cannot, the
+// other jobs and every element of lent memory. A line has a job's letter, the buffer's length and
+// the input, in upper-case hex:
 //
 //     E 23 C0
 //

@@ -6,7 +6,7 @@ ghost use mathlib.Core.Path.{_≡_};
 ghost use lib.Seq.{sets};
 ghost use Rattle.helpers.specs.Numbers.{refusalNumber, numberOf, secondOf};
 
-// Why a job refuses: document 01's refusals by name, in the order of their numbers.
+// Why a job refuses: the refusals of documents 01 and 02 by name, in the order of their numbers.
 pub enum Refusal {
     // 1: a value that is no Unicode scalar value.
     Scalar,
@@ -22,7 +22,7 @@ pub enum Refusal {
     Size,
     // 11: a cell neither 0 nor 1.
     Cell,
-    // 12: a block that is none of the 106 patterns.
+    // 12: a block that is none of the 106 patterns and has an even number of bar cells.
     Pattern,
     // 13: a number where it may not stand.
     Place,
@@ -30,6 +30,8 @@ pub enum Refusal {
     Check,
     // 15: no stop at the row's end.
     Stop,
+    // 16: a block that is none of the 106 patterns and has an odd number of bar cells.
+    Worn,
     // 20: a record under two bytes.
     Short,
     // 21: another version.
@@ -47,7 +49,7 @@ pub enum Answer {
 }
 
 impl Refusal {
-    // Document 01's number of the refusal.
+    // The documents' number of the refusal.
     pub fn number(self) -> u32
         ensures { λ r. ⌜ r ≡ refusalNumber self ⌝ }
     {
@@ -63,6 +65,7 @@ impl Refusal {
             Refusal::Place => 13,
             Refusal::Check => 14,
             Refusal::Stop => 15,
+            Refusal::Worn => 16,
             Refusal::Short => 20,
             Refusal::Version => 21,
             Refusal::Count => 22,

@@ -2,16 +2,17 @@
 -- tools/examples makes this file. Assumes nothing.
 use mathlib.Core.Path.{_≡_, refl}
 use mathlib.Core.List.{map}
-use Rattle.paper.specs.Iso15417.{cells, count, stop}
+use Rattle.paper.specs.Iso15417.{barCells, cells, count, stop}
 use Rattle.paper.specs.Chars.{chars}
-use Rattle.paper.specs.Rules.{runs, barCells}
+use Rattle.paper.specs.Rules.{runs}
 use Rattle.paper.specs.Jobs.{encode, draw, read, spell, scan, pack, unpack}
 use Rattle.paper.specs.Labels.{answered, expected}
 use Rattle.paper.proofs.Examples.{examples-computes, elevens, joined, asked, given, parsedAs, printedAs, passing, kept, threeJobs, threeAnswers, settles}
-use Rattle.paper.proofs.Examples.{settled, ruled, twice, called, left, unstarred, unstarredRecords, longest, order, published, publishedRows, crateChars}
-use Rattle.paper.proofs.Examples.{crateStop, crateWidths, crateBars, everyNumber, everySwitch, everyFunction, everyPair, foreignDigits, firstPoints}
-use Rattle.paper.proofs.Examples.{documented, randomly, randomlyWrong, checksOn, sweeps, readBack, readLengths, readBlocks, readStops, readChecks}
-use Rattle.paper.proofs.Examples.{readLong, lists, badLists, drawShort, spellShort, scanShort, packings, unpackings, settling, buffers, redrawings}
+use Rattle.paper.proofs.Examples.{settled, ruled, twice, flips, thrice, called, left, unstarred, unstarredRecords, longest, order, published}
+use Rattle.paper.proofs.Examples.{publishedRows, crateChars, crateStop, crateWidths, crateBars, everyNumber, everySwitch, everyFunction, everyPair}
+use Rattle.paper.proofs.Examples.{foreignDigits, firstPoints, documented, randomly, randomlyWrong, checksOn, sweeps, readBack, readLengths, readBlocks}
+use Rattle.paper.proofs.Examples.{readWorn, readStops, readChecks, readLong, lists, badLists, drawShort, spellShort, scanShort, packings, unpackings}
+use Rattle.paper.proofs.Examples.{settling, buffers, redrawings, flippings}
 
 pub unstarred-hold : map (asked encode) unstarred ≡ map given unstarred
 unfolding examples-computes
@@ -113,6 +114,10 @@ pub readBlocks-hold : map (asked read) readBlocks ≡ map given readBlocks
 unfolding examples-computes
 readBlocks-hold = refl
 
+pub readWorn-hold : map (asked read) readWorn ≡ map given readWorn
+unfolding examples-computes
+readWorn-hold = refl
+
 pub readStops-hold : map (asked read) readStops ≡ map given readStops
 unfolding examples-computes
 readStops-hold = refl
@@ -172,3 +177,7 @@ buffers-hold = refl
 pub redrawings-hold : map ruled redrawings ≡ map twice redrawings
 unfolding examples-computes
 redrawings-hold = refl
+
+pub flippings-hold : map flips flippings ≡ map thrice flippings
+unfolding examples-computes
+flippings-hold = refl

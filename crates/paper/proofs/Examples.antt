@@ -1,8 +1,9 @@
--- Answers from outside that the definitions in specs/ are held to: from document 01 by hand, from
--- the standard as we know it, and from the crate when it is run. Where a comment says "by hand", a
--- Python program written from document 01 alone gave the same answer (tools/examples/model.py).
--- Only proofs use these tables: Against.antt proves by computation that the definitions give every
--- answer in them. Nobody needs to audit them to know what is promised: that is in specs/.
+-- Answers from outside that the definitions in specs/ are held to: from documents 01 and 02 by
+-- hand, from the standard as we know it, and from the crate when it is run. Where a comment says
+-- "by hand", a Python program written from these documents alone gave the same answer
+-- (tools/examples/model.py). Only proofs use these tables: Against.antt proves by computation that
+-- the definitions give every answer in them. Nobody needs to audit them to know what is promised:
+-- that is in specs/.
 -- tools/examples makes this file. Assumes nothing.
 use Prim.Native.Nat.{ℕ, zero, suc, _+_, _-_, _*_, _/_, _%_}
 use Prim.Native.String.{String}
@@ -16,7 +17,7 @@ use Rattle.paper.specs.Crate.{À, Ɓ, Ć, Parsed, symbols, parse}
 use Rattle.paper.specs.Settle.{settle, inside}
 use Rattle.paper.specs.Jobs.{encode, draw, read, spell, scan, pack, unpack}
 use Rattle.paper.specs.Labels.{Label, _⇒_}
-use Rattle.paper.specs.Damage.{redrawn, verdict}
+use Rattle.paper.specs.Damage.{redrawn, verdict, flipped, flippedVerdict}
 use Rattle.paper.proofs.Computes.{settle-computes, chars-computes, rules-computes, damage-computes}
 
 -- ---- how the tables are written
@@ -78,6 +79,7 @@ infix 15 _is_checked_sends_
 infix 15 _spells_scans_draws_
 infix 15 _becomes_
 infix 15 _at_drawn_gives_
+infix 15 _flippedAt_gives_
 -- a job's input, the number of elements of the lent buffer, and the answer
 pub data Example : Type 0 where
   _into_gives_ : List ℕ → ℕ → Answer → Example
@@ -155,6 +157,18 @@ ruled (s at i drawn m gives a) = verdict s i m ∷ read 255 (redrawn i m (row s)
 
 unfoldable pub twice : Redrawn → List Answer
 twice (s at i drawn m gives a) = a ∷ a ∷ []
+
+-- a symbol list, the place of a cell of its row that is flipped, and what read answers then:
+-- `flippedVerdict` must say the same, and so must `read` of the changed row, into 255 elements and
+-- into none
+pub data Flipped : Type 0 where
+  _flippedAt_gives_ : List ℕ → ℕ → Answer → Flipped
+
+unfoldable pub flips : Flipped → List Answer
+flips (s flippedAt i gives a) = flippedVerdict s i ∷ read 255 (flipped i (row s)) ∷ read 0 (flipped i (row s)) ∷ []
+
+unfoldable pub thrice : Flipped → List Answer
+thrice (s flippedAt i gives a) = a ∷ a ∷ a ∷ []
 
 -- a job, its input and the buffer lent to it; then the answer number, the second number and what
 -- the buffer holds after the call
@@ -466,29 +480,31 @@ readBack =
 unfoldable pub readLengths : List Example
 readLengths =
     ([] into 255 gives refuse 10 0) ∷ (replicate 24 1 into 255 gives refuse 10 24) ∷ (replicate 34 0 into 255 gives refuse 10 34) ∷
-    (replicate 36 0 into 255 gives refuse 10 36) ∷ (replicate 47 1 into 255 gives refuse 10 47) ∷ (replicate 2829 1 into 255 gives refuse 12 0) ∷
-    (replicate 2830 1 into 255 gives refuse 10 2830) ∷ (replicate 2840 1 into 255 gives refuse 10 2840) ∷ (replicate 34 2 into 0 gives refuse 10 34) ∷
-    (replicate 35 2 into 0 gives refuse 11 0) ∷ (replicate 35 255 into 255 gives refuse 11 0) ∷ (replicate 34 0 ++ (2 ∷ []) into 255 gives refuse 11 34) ∷
-    (replicate 2828 0 ++ (3 ∷ []) into 255 gives refuse 11 2828) ∷ (cellsOf "11010000100 11011001100 110001110101" into 255 gives refuse 10 34) ∷
-    (cellsOf "11010000100 11011001100 11000111010111" into 255 gives refuse 10 36) ∷ (cellsOf "11010000100 1100011101011" into 255 gives refuse 10 24) ∷
-    (cellsOf "11010000100 11021001100 1100011101011" into 255 gives refuse 11 14) ∷ (cellsOf "00000000000 11011001102 1100011101011" into 255 gives refuse 11 21) ∷
+    (replicate 36 0 into 255 gives refuse 10 36) ∷ (replicate 47 1 into 255 gives refuse 10 47) ∷ (replicate 2829 0 into 255 gives refuse 12 0) ∷
+    (replicate 2829 1 into 255 gives refuse 16 0) ∷ (replicate 2830 1 into 255 gives refuse 10 2830) ∷ (replicate 2840 1 into 255 gives refuse 10 2840) ∷
+    (replicate 34 2 into 0 gives refuse 10 34) ∷ (replicate 35 2 into 0 gives refuse 11 0) ∷ (replicate 35 255 into 255 gives refuse 11 0) ∷
+    (replicate 34 0 ++ (2 ∷ []) into 255 gives refuse 11 34) ∷ (replicate 2828 0 ++ (3 ∷ []) into 255 gives refuse 11 2828) ∷
+    (cellsOf "11010000100 11011001100 110001110101" into 255 gives refuse 10 34) ∷ (cellsOf "11010000100 11011001100 11000111010111" into 255 gives refuse 10 36) ∷
+    (cellsOf "11010000100 1100011101011" into 255 gives refuse 10 24) ∷ (cellsOf "11010000100 11021001100 1100011101011" into 255 gives refuse 11 14) ∷
+    (cellsOf "00000000000 11011001102 1100011101011" into 255 gives refuse 11 21) ∷ (cellsOf "11111111111 11011001102 1100011101011" into 255 gives refuse 11 21) ∷
     (cellsOf "10100011000 11010000100 1100011101012" into 255 gives refuse 11 34) ∷ (cellsOf "11010000100 11011001100 2100011101011" into 0 gives refuse 11 22) ∷
     (cellsOf "21010000100 11011301100 1100011101011" into 255 gives refuse 11 0) ∷
     (cellsOf "11010000100 10111011110 12111011110 1102011101011" into 255 gives refuse 11 23) ∷ []
 
--- Refusals 12 and 13, by hand: the first block from the left that is no pattern, or that is not a
--- START at block 0, or that is above 102 after it. They come before 15, 14 and 5.
+-- Refusals 12, 16 and 13, by hand: the first block from the left that is no pattern, 16 where its
+-- number of bar cells is odd and else 12; or that is not a START at block 0, or that is above 102
+-- after it. They come before 15, 14 and 5.
 unfoldable pub readBlocks : List Example
 readBlocks =
-    (cellsOf "11010000101 11011001100 1100011101011" into 255 gives refuse 12 0) ∷ (cellsOf "00000000000 11011001100 1100011101011" into 255 gives refuse 12 0) ∷
-    (cellsOf "11111111111 11011001100 1100011101011" into 255 gives refuse 12 0) ∷ (cellsOf "11000111010 11011001100 1100011101011" into 255 gives refuse 12 0) ∷
-    (cellsOf "00100001011 11011001100 1100011101011" into 255 gives refuse 12 0) ∷ (cellsOf "11010000100 11010001100 1100011101011" into 255 gives refuse 12 1) ∷
+    (cellsOf "11010000101 11011001100 1100011101011" into 255 gives refuse 16 0) ∷ (cellsOf "00000000000 11011001100 1100011101011" into 255 gives refuse 12 0) ∷
+    (cellsOf "11111111111 11011001100 1100011101011" into 255 gives refuse 16 0) ∷ (cellsOf "11000111010 11011001100 1100011101011" into 255 gives refuse 12 0) ∷
+    (cellsOf "00100001011 11011001100 1100011101011" into 255 gives refuse 12 0) ∷ (cellsOf "11010000100 11010001100 1100011101011" into 255 gives refuse 16 1) ∷
     (cellsOf "11010000100 11000111010 1100011101011" into 255 gives refuse 12 1) ∷
-    (cellsOf "11010011100 11110011100 10011001110 1100011101011" into 255 gives refuse 12 1) ∷
+    (cellsOf "11010011100 11110011100 10011001110 1100011101011" into 255 gives refuse 16 1) ∷
     (cellsOf "11010011100 10110011100 00000000000 1100011101011" into 255 gives refuse 12 2) ∷
-    (cellsOf "11010011100 10110011100 10011001100 1100011101011" into 255 gives refuse 12 2) ∷
-    (cellsOf "11010010000 10100011000 11000100010 11111111111 10111011000 1100011101011" into 255 gives refuse 12 3) ∷
-    (cellsOf "11010010000 10100011000 11000100010 10111011000 11111111111 1100011101011" into 0 gives refuse 12 4) ∷
+    (cellsOf "11010011100 10110011100 10011001100 1100011101011" into 255 gives refuse 16 2) ∷
+    (cellsOf "11010010000 10100011000 11000100010 11111111111 10111011000 1100011101011" into 255 gives refuse 16 3) ∷
+    (cellsOf "11010010000 10100011000 11000100010 10111011000 11111111111 1100011101011" into 0 gives refuse 16 4) ∷
     (cellsOf "11011001100 11011001100 1100011101011" into 255 gives refuse 13 0) ∷ (cellsOf "11110101110 11011001100 1100011101011" into 255 gives refuse 13 0) ∷
     (cellsOf "10100011000 11000100010 10111011000 1100011101011" into 255 gives refuse 13 0) ∷
     (cellsOf "11010000100 11010000100 1100011101011" into 255 gives refuse 13 1) ∷ (cellsOf "11010000100 11010010000 1100011101011" into 255 gives refuse 13 1) ∷
@@ -504,6 +520,36 @@ readBlocks =
     (cellsOf "11010010000 10100011000 11010000100 00000000000 10111011000 1100011101011" into 255 gives refuse 13 2) ∷
     (cellsOf "11010000100 11010000100 0000000000000" into 255 gives refuse 13 1) ∷ (cellsOf "11010000100 00000000000 0000000000000" into 255 gives refuse 12 1) ∷
     (cellsOf "10100011000 11011001100 0100011101011" into 255 gives refuse 13 0) ∷ []
+
+-- Refusal 16 and its neighbours, by hand from request 3 of document 02: a block that is no pattern
+-- is answered 16 where its number of bar cells is odd. Every pattern has an even number, so one
+-- cell flipped in a pattern makes 16, and two make 12 or another pattern.
+unfoldable pub readWorn : List Example
+readWorn =
+    (cellsOf "11010000100 00000000000 1100011101011" into 255 gives refuse 12 1) ∷ (cellsOf "11010000100 10000000000 1100011101011" into 255 gives refuse 16 1) ∷
+    (cellsOf "11010000100 11000000000 1100011101011" into 255 gives refuse 12 1) ∷ (cellsOf "11010000100 11100000000 1100011101011" into 255 gives refuse 16 1) ∷
+    (cellsOf "11010000100 11110000000 1100011101011" into 255 gives refuse 12 1) ∷ (cellsOf "11010000100 11111000000 1100011101011" into 255 gives refuse 16 1) ∷
+    (cellsOf "11010000100 11111100000 1100011101011" into 255 gives refuse 12 1) ∷ (cellsOf "11010000100 11111110000 1100011101011" into 255 gives refuse 16 1) ∷
+    (cellsOf "11010000100 11111111000 1100011101011" into 255 gives refuse 12 1) ∷ (cellsOf "11010000100 11111111100 1100011101011" into 255 gives refuse 16 1) ∷
+    (cellsOf "11010000100 11111111110 1100011101011" into 255 gives refuse 12 1) ∷ (cellsOf "11010000100 11111111111 1100011101011" into 255 gives refuse 16 1) ∷
+    (cellsOf "11010000111 11011001100 1100011101011" into 255 gives refuse 12 0) ∷
+    (cellsOf "11010011100 01110011100 10011001110 1100011101011" into 255 gives refuse 12 1) ∷
+    (cellsOf "11010011100 10110011100 10011001101 1100011101011" into 255 gives refuse 12 2) ∷
+    (cellsOf "11010010000 11011001100 1100011101011" into 255 gives refuse 14 1) ∷
+    (cellsOf "11010011100 11010011100 10011001110 1100011101011" into 255 gives refuse 13 1) ∷
+    (cellsOf "00110000100 11011001100 1100011101011" into 255 gives refuse 16 0) ∷
+    (cellsOf "11010011100 10110011101 00011001110 1100011101011" into 255 gives refuse 16 1) ∷
+    (cellsOf "11111111111 00000000000 1100011101011" into 255 gives refuse 16 0) ∷ (cellsOf "00000000000 11111111111 1100011101011" into 255 gives refuse 12 0) ∷
+    (cellsOf "11010011100 11111111111 11000111010 1100011101011" into 255 gives refuse 16 1) ∷
+    (cellsOf "11010011100 11000111010 11111111111 1100011101011" into 255 gives refuse 12 1) ∷
+    (cellsOf "11010010000 10100011000 11001100010 00000000000 10111011000 1100011101011" into 255 gives refuse 16 2) ∷
+    (cellsOf "11010010000 10100011000 00000000000 10110011000 10111011000 1100011101011" into 255 gives refuse 12 2) ∷
+    (cellsOf "11111111111 11010000100 1100011101011" into 255 gives refuse 16 0) ∷ (cellsOf "10100011000 11111111111 1100011101011" into 255 gives refuse 13 0) ∷
+    (cellsOf "11010011100 10110111100 11010000100 1100011101011" into 255 gives refuse 16 1) ∷
+    (cellsOf "11010011100 11010000100 10011101110 1100011101011" into 255 gives refuse 13 1) ∷
+    (cellsOf "11010000100 11011001101 1100011101011" into 0 gives refuse 16 1) ∷ (cellsOf "11010000100 11001101101 1100011101011" into 255 gives refuse 16 1) ∷
+    (cellsOf "11010011100 10011011100 00011001110 1100011101011" into 1 gives refuse 16 2) ∷
+    (cellsOf "11010000100 01011001100 0000000000000" into 255 gives refuse 16 1) ∷ (cellsOf "01010000100 11001101100 0100011101011" into 0 gives refuse 16 0) ∷ []
 
 -- Refusal 15, by hand: it gives the place in the row of the first wrong cell of the last 13.
 unfoldable pub readStops : List Example
@@ -736,6 +782,9 @@ buffers =
     (calls encode (points "À") (replicate 34 9) 5 35 (replicate 34 9)) ∷ (calls encode (points "Ć1") (4 ∷ 5 ∷ 6 ∷ []) 3 2 (4 ∷ 5 ∷ 6 ∷ [])) ∷
     (calls draw (105 ∷ 2 ∷ []) (3 ∷ []) 5 46 (3 ∷ [])) ∷ (calls read (cellsOf "11010000100110110011001100011101011") (1 ∷ 2 ∷ 3 ∷ []) 0 1 (103 ∷ 2 ∷ 3 ∷ [])) ∷
     (calls read (cellsOf "11010000100110110011001100011101010") (1 ∷ 2 ∷ 3 ∷ []) 15 34 (1 ∷ 2 ∷ 3 ∷ [])) ∷
+    (calls read (cellsOf "01010000100110110011001100011101011") (1 ∷ 2 ∷ 3 ∷ []) 16 0 (1 ∷ 2 ∷ 3 ∷ [])) ∷
+    (calls read (cellsOf "11010000100110110011011100011101011") (9 ∷ []) 16 1 (9 ∷ [])) ∷
+    (calls read (cellsOf "11010000100110110011011100011101011") ([]) 16 1 ([])) ∷
     (calls spell (105 ∷ 12 ∷ []) (8 ∷ 8 ∷ 8 ∷ 8 ∷ 8 ∷ []) 0 3 (Ć ∷ 49 ∷ 50 ∷ 8 ∷ 8 ∷ [])) ∷
     (calls scan (105 ∷ 12 ∷ []) (8 ∷ 8 ∷ 8 ∷ 8 ∷ 8 ∷ []) 0 2 (49 ∷ 50 ∷ 8 ∷ 8 ∷ 8 ∷ [])) ∷ (calls scan (103 ∷ []) (8 ∷ 9 ∷ []) 0 0 (8 ∷ 9 ∷ [])) ∷
     (calls scan (103 ∷ 106 ∷ []) (8 ∷ 9 ∷ []) 13 1 (8 ∷ 9 ∷ [])) ∷
@@ -758,7 +807,35 @@ redrawings =
     ((104 ∷ replicate 103 33) at 103 drawn 65 gives accept 104 (104 ∷ replicate 102 33 ++ (65 ∷ []))) ∷
     ((104 ∷ replicate 102 33) at 103 drawn 65 gives refuse 14 1) ∷ ((104 ∷ replicate 206 33) at 206 drawn 0 gives accept 207 (104 ∷ replicate 205 33 ++ (0 ∷ []))) ∷ []
 
+-- ---- j. one cell flipped
+
+-- By hand from request 3 of document 02: refusal 16 with the block of the flipped cell, or 15 with
+-- its place in the stop, whatever the length of the buffer. First every cell of one row; then cells
+-- in the START, in data, in the check and in the stop of others.
+unfoldable pub flippings : List Flipped
+flippings =
+    ((103 ∷ []) flippedAt 0 gives refuse 16 0) ∷ ((103 ∷ []) flippedAt 1 gives refuse 16 0) ∷ ((103 ∷ []) flippedAt 2 gives refuse 16 0) ∷
+    ((103 ∷ []) flippedAt 3 gives refuse 16 0) ∷ ((103 ∷ []) flippedAt 4 gives refuse 16 0) ∷ ((103 ∷ []) flippedAt 5 gives refuse 16 0) ∷
+    ((103 ∷ []) flippedAt 6 gives refuse 16 0) ∷ ((103 ∷ []) flippedAt 7 gives refuse 16 0) ∷ ((103 ∷ []) flippedAt 8 gives refuse 16 0) ∷
+    ((103 ∷ []) flippedAt 9 gives refuse 16 0) ∷ ((103 ∷ []) flippedAt 10 gives refuse 16 0) ∷ ((103 ∷ []) flippedAt 11 gives refuse 16 1) ∷
+    ((103 ∷ []) flippedAt 12 gives refuse 16 1) ∷ ((103 ∷ []) flippedAt 13 gives refuse 16 1) ∷ ((103 ∷ []) flippedAt 14 gives refuse 16 1) ∷
+    ((103 ∷ []) flippedAt 15 gives refuse 16 1) ∷ ((103 ∷ []) flippedAt 16 gives refuse 16 1) ∷ ((103 ∷ []) flippedAt 17 gives refuse 16 1) ∷
+    ((103 ∷ []) flippedAt 18 gives refuse 16 1) ∷ ((103 ∷ []) flippedAt 19 gives refuse 16 1) ∷ ((103 ∷ []) flippedAt 20 gives refuse 16 1) ∷
+    ((103 ∷ []) flippedAt 21 gives refuse 16 1) ∷ ((103 ∷ []) flippedAt 22 gives refuse 15 22) ∷ ((103 ∷ []) flippedAt 23 gives refuse 15 23) ∷
+    ((103 ∷ []) flippedAt 24 gives refuse 15 24) ∷ ((103 ∷ []) flippedAt 25 gives refuse 15 25) ∷ ((103 ∷ []) flippedAt 26 gives refuse 15 26) ∷
+    ((103 ∷ []) flippedAt 27 gives refuse 15 27) ∷ ((103 ∷ []) flippedAt 28 gives refuse 15 28) ∷ ((103 ∷ []) flippedAt 29 gives refuse 15 29) ∷
+    ((103 ∷ []) flippedAt 30 gives refuse 15 30) ∷ ((103 ∷ []) flippedAt 31 gives refuse 15 31) ∷ ((103 ∷ []) flippedAt 32 gives refuse 15 32) ∷
+    ((103 ∷ []) flippedAt 33 gives refuse 15 33) ∷ ((103 ∷ []) flippedAt 34 gives refuse 15 34) ∷ ((105 ∷ 12 ∷ []) flippedAt 0 gives refuse 16 0) ∷
+    ((105 ∷ 12 ∷ []) flippedAt 10 gives refuse 16 0) ∷ ((105 ∷ 12 ∷ []) flippedAt 11 gives refuse 16 1) ∷ ((105 ∷ 12 ∷ []) flippedAt 21 gives refuse 16 1) ∷
+    ((105 ∷ 12 ∷ []) flippedAt 22 gives refuse 16 2) ∷ ((105 ∷ 12 ∷ []) flippedAt 32 gives refuse 16 2) ∷
+    ((104 ∷ 33 ∷ 41 ∷ 45 ∷ []) flippedAt 5 gives refuse 16 0) ∷ ((104 ∷ 33 ∷ 41 ∷ 45 ∷ []) flippedAt 12 gives refuse 16 1) ∷
+    ((104 ∷ 33 ∷ 41 ∷ 45 ∷ []) flippedAt 27 gives refuse 16 2) ∷ ((104 ∷ 33 ∷ 41 ∷ 45 ∷ []) flippedAt 43 gives refuse 16 3) ∷
+    ((104 ∷ 33 ∷ 41 ∷ 45 ∷ []) flippedAt 44 gives refuse 16 4) ∷ ((104 ∷ 33 ∷ 41 ∷ 45 ∷ []) flippedAt 54 gives refuse 16 4) ∷
+    ((105 ∷ 12 ∷ []) flippedAt 33 gives refuse 15 33) ∷ ((105 ∷ 12 ∷ []) flippedAt 45 gives refuse 15 45) ∷
+    ((104 ∷ 33 ∷ 41 ∷ 45 ∷ []) flippedAt 55 gives refuse 15 55) ∷ ((104 ∷ 33 ∷ 41 ∷ 45 ∷ []) flippedAt 61 gives refuse 15 61) ∷
+    ((104 ∷ 33 ∷ 41 ∷ 45 ∷ []) flippedAt 67 gives refuse 15 67) ∷ []
+
 -- a proof by computation names this on its `unfolding` line: it opens every definition above
 unfoldable pub examples-computes : Unit {0}
-unfolding digit16 digits16 cellsOf fours rowOf accepted pairs16 bytesOf elevens joined times asked given parsedAs printedAs tried passesAt those passing kept threeJobs threeAnswers settles settled ruled twice gave called left unstarred unstarredRecords longest order published publishedRows crateChars crateStop crateWidths crateBars everyNumber everySwitch everyFunction everyPair foreignDigits firstPoints documented randomly randomlyWrong checksOn sweeps readBack readLengths readBlocks readStops readChecks readLong lists badLists drawShort spellShort scanShort packings unpackings settling buffers redrawings settle-computes chars-computes rules-computes damage-computes
+unfolding digit16 digits16 cellsOf fours rowOf accepted pairs16 bytesOf elevens joined times asked given parsedAs printedAs tried passesAt those passing kept threeJobs threeAnswers settles settled ruled twice flips thrice gave called left unstarred unstarredRecords longest order published publishedRows crateChars crateStop crateWidths crateBars everyNumber everySwitch everyFunction everyPair foreignDigits firstPoints documented randomly randomlyWrong checksOn sweeps readBack readLengths readBlocks readWorn readStops readChecks readLong lists badLists drawShort spellShort scanShort packings unpackings settling buffers redrawings flippings settle-computes chars-computes rules-computes damage-computes
 examples-computes = tt

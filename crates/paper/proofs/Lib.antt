@@ -15,7 +15,9 @@ pub mod Reading
 pub mod Primes
 pub mod Damaged
 pub mod Exactly
+pub mod Flipped
 pub mod Bytes
 pub mod Records
 pub mod Results
+pub mod Wrong
 pub mod Promises

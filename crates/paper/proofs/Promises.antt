@@ -3,7 +3,7 @@
 -- Assumes nothing.
 use Rattle.paper.specs.Promises.{Promises}
 use Rattle.paper.proofs.Labels.{points-named, labels}
-use Rattle.paper.proofs.Table.{table-length, table-widths, table-rule, table-apart, table-found, table-pattern}
+use Rattle.paper.proofs.Table.{table-length, table-widths, table-rule, table-apart, table-found, table-pattern, look-is, look-worn, look-unknown}
 use Rattle.paper.proofs.Codes.{numbers-written, numbers-sent, numbers-switch, numbers-differ, numbers-all, numbers-back, scan-seven-bits}
 use Rattle.paper.proofs.Results.{encode-owes, draw-owes, read-owes, spell-owes, scan-owes, pack-owes, unpack-owes}
 use Rattle.paper.proofs.Encoding.{encode-size, encode-exactly, same-row, spell-encodes, spell-only}
@@ -11,6 +11,8 @@ use Rattle.paper.proofs.Settling.{settle-quiet, settle-keeps, settle-or
 use Rattle.paper.proofs.Reading.{draw-size, read-size, read-of-draw, draw-of-read}
 use Rattle.paper.proofs.Exactly.{read-exactly}
 use Rattle.paper.proofs.Damaged.{replaced, replaced-accepted}
+use Rattle.paper.proofs.Wrong.{read-worn, read-unknown}
+use Rattle.paper.proofs.Flipped.{flipped-exactly, flipped-refused}
 use Rattle.paper.proofs.Records.{unpack-size, unpack-of-pack, pack-of-unpack}
 
 pub promises : Promises
@@ -21,6 +23,9 @@ promises = record {
   table-apart = table-apart;
   table-found = table-found;
   table-pattern = table-pattern;
+  look-is = look-is;
+  look-worn = look-worn;
+  look-unknown = look-unknown;
   numbers-written = numbers-written;
   numbers-sent = numbers-sent;
   numbers-switch = numbers-switch;
@@ -52,6 +57,10 @@ promises = record {
   draw-of-read = draw-of-read;
   replaced = replaced;
   replaced-accepted = replaced-accepted;
+  read-worn = read-worn;
+  read-unknown = read-unknown;
+  flipped-exactly = flipped-exactly;
+  flipped-refused = flipped-refused;
   spell-encodes = spell-encodes;
   spell-only = spell-only;
   scan-seven-bits = scan-seven-bits;

@@ -11,7 +11,7 @@ use lib.Seq.{length-take-le, take-all, drop-drop, take-at, drop-at, take-suc, ge
 use borrow.Author.Tests.{leb-true, le-leb, eqb-true, eq-eqb}
 use Rattle.helpers.specs.Answers.{if_then_else_, Each, Answer, accept, passes, _then_, ask, every, into}
 use Rattle.paper.proofs.Computes.{iso15417-computes, jobs-computes}
-use Rattle.paper.specs.Iso15417.{pattern, stop, Look, is, unknown, found, check, cells, row}
+use Rattle.paper.specs.Iso15417.{pattern, stop, Look, is, worn, unknown, found, check, cells, row}
 use Rattle.paper.specs.Jobs.{most, SymbolList, StartThenData, rowLength, symbolCount, possibleRow, isCell, isData, Blocks, wrongBlock, numbers, ofRow, fitsAt, withNumber, block, blocksFrom, looked, lastOf, wanted, read, draw}
 use Rattle.helpers.proofs.Answering.{then-accept, ask-passes, passed, into-accept, into-room, each-append, refuse-not-accept, accept-number, accept-output}
 use Rattle.paper.proofs.Table.{found-pattern, found-is, pattern-cells}
@@ -75,7 +75,7 @@ unfolding sound block withNumber
 sound-fits b [] f = refl
 sound-fits b (m ∷ ms) f = rw (f .0, sound-fits (suc b) ms (f .1))
 
-blocks-cells : (b : ℕ) (u rest : List ℕ) → Each Number u → blocksFrom (length u) b (cells u ++ rest) ≡ sound b u
+pub blocks-cells : (b : ℕ) (u rest : List ℕ) → Each Number u → blocksFrom (length u) b (cells u ++ rest) ≡ sound b u
 unfolding sound blocksFrom
 blocks-cells b [] rest a = refl
 blocks-cells b (m ∷ ms) rest a = rw (first-block m ms rest (a .0), found-pattern m (a .0), other-blocks m ms rest (a .0), blocks-cells (suc b) ms rest (a .1))
@@ -110,14 +110,19 @@ of-row room cs made n long low high clean =
     let counted : symbolCount (length cs) ≡ n = rw long (may .1) in
     rw (sized, counted, cells-pass cs clean)
 
--- read answers by the walk over the numbers
+-- read answers by the walk over the blocks
+pub read-clean : (room : ℕ) (cs : List ℕ) (n : ℕ) → length cs ≡ 11 * (n + 1) + 13 → 1 ≤ n → n ≤ 255 → Each (λ c. c ≤ 1) cs
+    → read room cs ≡ into room (looked (blocksFrom (n + 1) 0 cs) (judged n cs))
+unfolding read rowLength
+read-clean room cs n long low high clean = of-row room cs _ n long low high clean
+
+-- and over the numbers that they are drawn from
 pub read-cells : (room : ℕ) (u : List ℕ) (n : ℕ) → Each Number u → length u ≡ n + 1 → 1 ≤ n → n ≤ 255
     → read room (cells u ++ stop) ≡ into room (looked (sound 0 u) (judged n (cells u ++ stop)))
-unfolding read rowLength
 read-cells room u n a l low high =
-    let long : length (cells u ++ stop) ≡ rowLength n = simp (length-append, length-cells u a, length-stop, l) in
+    let long : length (cells u ++ stop) ≡ 11 * (n + 1) + 13 = simp (length-append, length-cells u a, length-stop, l) in
     let clean = each-append (λ c. c ≤ 1) (cells u) stop (cells-clean u a) stop-clean in
-    of-row room (cells u ++ stop) _ n long low high clean ∙ rw (← l, blocks-cells 0 u stop a)
+    read-clean room (cells u ++ stop) n long low high clean ∙ rw (← l, blocks-cells 0 u stop a)
 
 -- where all of them may stand, the check is left to ask
 pub read-fits : (room : ℕ) (u : List ℕ) (n : ℕ) → Fits 0 u → length u ≡ n + 1 → 1 ≤ n → n ≤ 255
@@ -148,6 +153,7 @@ block-numbers : (l : Look) (b : ℕ) (rest : Blocks) (ms : List ℕ) → block l
     → (m : ℕ) × (ks : List ℕ) × (l ≡ is m) × (fitsAt b m ≡ true) × (rest ≡ numbers ks) × (ms ≡ m ∷ ks)
 unfolding block
 block-numbers (is m) b rest ms e = let r = fitted b m (fitsAt b m) rest ms refl e in (m, r .0, refl, r .1, r .2, r .3)
+block-numbers worn b rest ms e = absurd (let z : _≡_ {A = ℕ} 0 1 = cc in omega arith)
 block-numbers unknown b rest ms e = absurd (let z : _≡_ {A = ℕ} 0 1 = cc in omega arith)
 
 -- what follows from the numbers of n blocks for the cells

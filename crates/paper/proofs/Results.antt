@@ -13,7 +13,7 @@ use Rattle.helpers.specs.Answers.{if_then_else_, Answer, accept, refuses, every
 use Rattle.helpers.specs.Owes.{OneOf, Owes}
 use Rattle.helpers.proofs.Answering.{into-accept, whole-accept}
 use Rattle.helpers.proofs.Owed.{TestBy, By, by-if, by-then, by-ask, by-every, by-into, owes}
-use Rattle.paper.specs.Iso15417.{Look, is, unknown, found, stop, before, scanned}
+use Rattle.paper.specs.Iso15417.{Look, is, worn, unknown, found, stop, before, scanned}
 use Rattle.paper.specs.Crate.{Parsed, stops, symbols, parse}
 use Rattle.paper.specs.Jobs.{most, SymbolList, encode, draw, read, spell, scan, pack, unpack, parsed, isStart, isData, wellFormed, ofList, ofRow, fitsAt, Blocks, wrongBlock, numbers, withNumber, block, blocksFrom, looked, wanted}
 use Rattle.paper.proofs.Lists.{symbol-list}
@@ -46,22 +46,23 @@ module _ (ks : List ℕ) where
   by-fit true m b (numbers ms) p q = tt
   by-fit false m b rest p q = p
 
-  by-block : (l : Look) (b : ℕ) (rest : Blocks) → OneOf 12 ks → OneOf 13 ks → BlocksBy ks rest → BlocksBy ks (block l b rest)
+  by-block : (l : Look) (b : ℕ) (rest : Blocks) → OneOf 12 ks → OneOf 16 ks → OneOf 13 ks → BlocksBy ks rest → BlocksBy ks (block l b rest)
   unfolding block
-  by-block unknown b rest p q r = p
-  by-block (is m) b rest p q r = by-fit (fitsAt b m) m b rest q r
+  by-block unknown b rest p o q r = p
+  by-block worn b rest p o q r = o
+  by-block (is m) b rest p o q r = by-fit (fitsAt b m) m b rest q r
 
-  by-blocks : (n b : ℕ) (cs : List ℕ) → OneOf 12 ks → OneOf 13 ks → BlocksBy ks (blocksFrom n b cs)
+  by-blocks : (n b : ℕ) (cs : List ℕ) → OneOf 12 ks → OneOf 16 ks → OneOf 13 ks → BlocksBy ks (blocksFrom n b cs)
   unfolding blocksFrom
-  by-blocks zero b cs p q = tt
-  by-blocks (suc n) b cs p q = by-block (found (take 11 cs)) b _ p q (by-blocks n (suc b) (drop 11 cs) p q)
+  by-blocks zero b cs p o q = tt
+  by-blocks (suc n) b cs p o q = by-block (found (take 11 cs)) b _ p o q (by-blocks n (suc b) (drop 11 cs) p o q)
 
   by-looked : (bs : Blocks) (made : List ℕ → Answer) → BlocksBy ks bs → ((ms : List ℕ) → By ks (made ms)) → By ks (looked bs made)
   unfolding looked
   by-looked (wrongBlock k b) made p f = p
   by-looked (numbers ms) made p f = f ms
 
-  by-wanted : (k at : ℕ) (ys cs : List ℕ) → OneOf k ks → TestBy ks (wanted k at ys cs)
+  pub by-wanted : (k at : ℕ) (ys cs : List ℕ) → OneOf k ks → TestBy ks (wanted k at ys cs)
   unfolding wanted
   by-wanted k at [] cs p = tt
   by-wanted k at (y ∷ ys) [] p = p
@@ -93,14 +94,14 @@ scan-by : (room : ℕ) (x : List ℕ) → By (10 ∷ 13 ∷ 5 ∷ []) (scan room
 unfolding scan whole
 scan-by room x = list-by room x _ _
 
-read-by : (room : ℕ) (x : List ℕ) → By (10 ∷ 11 ∷ 12 ∷ 13 ∷ 15 ∷ 14 ∷ 5 ∷ []) (read room x)
+read-by : (room : ℕ) (x : List ℕ) → By (10 ∷ 11 ∷ 12 ∷ 16 ∷ 13 ∷ 15 ∷ 14 ∷ 5 ∷ []) (read room x)
 unfolding read ofRow
 read-by room x =
-    by-into _ room _ (inr (inr (inr (inr (inr (inr (inl refl)))))))
+    by-into _ room _ (inr (inr (inr (inr (inr (inr (inr (inl refl))))))))
     (by-then _ _ _ (by-ask _ _ 10 (length x) (inl refl))
     (by-then _ _ _ (by-every _ _ 11 0 x (inr (inl refl)))
-    (by-looked _ _ _ (by-blocks _ _ 0 x (inr (inr (inl refl))) (inr (inr (inr (inl refl)))))
-    λ ms. by-then _ _ _ (by-wanted _ 15 _ stop _ (inr (inr (inr (inr (inl refl)))))) (by-then _ _ _ (by-ask _ _ 14 _ (inr (inr (inr (inr (inr (inl refl))))))) tt))))
+    (by-looked _ _ _ (by-blocks _ _ 0 x (inr (inr (inl refl))) (inr (inr (inr (inl refl)))) (inr (inr (inr (inr (inl refl))))))
+    λ ms. by-then _ _ _ (by-wanted _ 15 _ stop _ (inr (inr (inr (inr (inr (inl refl))))))) (by-then _ _ _ (by-ask _ _ 14 _ (inr (inr (inr (inr (inr (inr (inl refl)))))))) tt))))
 
 pack-by : (room : ℕ) (x : List ℕ) → By (10 ∷ 11 ∷ 5 ∷ []) (pack room x)
 unfolding pack ofRow whole
@@ -140,7 +141,7 @@ pub draw-owes : Owes draw (10 ∷ 13 ∷ 5 ∷ []) 2829
 unfolding draw ofList
 draw-owes = owes draw _ 2829 (omega arith) draw-by (λ room x n out e. into-accept room _ e .1) (λ room x n out e. omega (arith, draw-size room x n out e))
 
-pub read-owes : Owes read (10 ∷ 11 ∷ 12 ∷ 13 ∷ 15 ∷ 14 ∷ 5 ∷ []) 255
+pub read-owes : Owes read (10 ∷ 11 ∷ 12 ∷ 16 ∷ 13 ∷ 15 ∷ 14 ∷ 5 ∷ []) 255
 unfolding read ofRow
 read-owes = owes read _ 255 (omega arith) read-by (λ room x n out e. into-accept room _ e .1) (λ room x n out e. omega (arith, read-size room x n out e))
 

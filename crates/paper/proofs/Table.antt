@@ -1,19 +1,20 @@
 -- The table of patterns: its rule by one computed test, and what a block is found as.
 -- Assumes nothing.
-use mathlib.Core.Path.{_≡_, refl, sym, ap, ap₂}
-use mathlib.Core.Logic.{_≢_}
+use mathlib.Core.Path.{_≡_, refl, sym, ap, ap₂, _∙_}
+use mathlib.Core.Logic.{_≢_, _↔_, _⊎_, inl, inr}
 use mathlib.Core.Bool.{Bool, true, false, _&&_, not}
 use mathlib.Core.List.{List, [], _∷_}
 use Prim.Native.Nat.{ℕ, suc, _+_, _%_, _<_, _≤_}
 use native.Mathlib.Omega.{arith}
+use native.Mathlib.Decide.{decLe}
 use lib.Dec.{leb, eqb, T}
 use lib.ListN.{length, getD, take}
-use borrow.Author.Tests.{leb-true, eqb-true, eq-eqb}
+use borrow.Author.Tests.{leb-true, eqb-true, eq-eqb, ne-eqb}
 use Rattle.helpers.specs.Answers.{if_then_else_, Each}
-use Rattle.paper.specs.Iso15417.{widths, drawn, pattern, stop, same, Look, is, unknown, foundIn, found, cells, count}
+use Rattle.paper.specs.Iso15417.{widths, drawn, pattern, stop, same, barCells, Look, is, worn, unknown, wornOrUnknown, foundIn, found, cells, count}
 use Rattle.paper.specs.Chars.{chars, entry}
 use Rattle.paper.proofs.Computes.{chars-computes, rules-computes}
-use Rattle.paper.specs.Rules.{runs, barCells, PatternRule}
+use Rattle.paper.specs.Rules.{runs, PatternRule, NoPattern}
 use Rattle.helpers.proofs.Answering.{true-not-false, and-true, truth}
 use Rattle.helpers.proofs.Below.{below, at, and-left, and-right}
 
@@ -69,9 +70,14 @@ first-or-other n w ws b m false s others e =
     let r = others e in
     record { place = suc (r .place); number = omega arith; listed = omega arith; drawn-so = r .drawn-so }
 
+-- what is no pattern has no number
+none-is : (odd : Bool) (m : ℕ) → (if odd then worn else unknown) ≡ is m → ⊥
+none-is true m e = absurd (let z : _≡_ {A = ℕ} 0 1 = cc in omega arith)
+none-is false m e = absurd (let z : _≡_ {A = ℕ} 0 1 = cc in omega arith)
+
 found-in : (n : ℕ) (ws b : List ℕ) (m : ℕ) → foundIn n ws b ≡ is m → FoundAt n ws b m
-unfolding foundIn
-found-in n [] b m e = absurd (let z : _≡_ {A = ℕ} 0 1 = cc in omega arith)
+unfolding foundIn wornOrUnknown
+found-in n [] b m e = absurd (none-is (eqb (barCells b % 2) 1) m e)
 found-in n (w ∷ ws) b m e = first-or-other n w ws b m (same (drawn w) b) refl (found-in (suc n) ws b m) e
 
 all-widths : length widths ≡ 106
@@ -98,11 +104,13 @@ each-of-every f P law (x ∷ xs) t = (law x (and-left (f x) (every f xs) t), eac
 
 looks : Look → ℕ → Bool
 looks (is k) m = eqb k m
+looks worn m = false
 looks unknown m = false
 
 looks-is : (l : Look) (m : ℕ) → T (looks l m) → l ≡ is m
 unfolding looks
 looks-is (is k) m t = ap is (as-equal k m t)
+looks-is worn m t = absurd t
 looks-is unknown m t = absurd t
 
 -- the tests of one entry: its pattern, how it is found, and the rule, in the order of the record
@@ -176,5 +184,69 @@ length-pattern m h = rule-of-pattern m h .eleven
 pub pattern-cells : (m : ℕ) → m < 106 → Each (λ c. c ≤ 1) (pattern m)
 pattern-cells m h = rule-of-pattern m h .two-colours
 
+pub pattern-even : (m : ℕ) → m < 106 → barCells (pattern m) % 2 ≡ 0
+pattern-even m h = rule-of-pattern m h .even
+
 pub found-pattern : (m : ℕ) → m < 106 → found (pattern m) ≡ is m
 found-pattern m h = rw (table-pattern m h) at (table-found m h)
+
+-- ---- the three cases of the lookup
+
+-- a block has a number, or is what no pattern is
+number-or-none : (t : Bool) (n : ℕ) (l x : Look) → ((m : ℕ) × (l ≡ is m)) ⊎ (l ≡ x) → ((m : ℕ) × ((if t then is n else l) ≡ is m)) ⊎ ((if t then is n else l) ≡ x)
+number-or-none true n l x c = inl (n, refl)
+number-or-none false n l x c = c
+
+in-or-none : (n : ℕ) (ws b : List ℕ) → ((m : ℕ) × (foundIn n ws b ≡ is m)) ⊎ (foundIn n ws b ≡ wornOrUnknown b)
+unfolding foundIn
+in-or-none n [] b = inr refl
+in-or-none n (w ∷ ws) b = number-or-none (same (drawn w) b) n (foundIn (suc n) ws b) (wornOrUnknown b) (in-or-none (suc n) ws b)
+
+found-or-none : (b : List ℕ) → ((m : ℕ) × (found b ≡ is m)) ⊎ (found b ≡ wornOrUnknown b)
+unfolding found
+found-or-none b = in-or-none 0 widths b
+
+pub look-is : (cs : List ℕ) (m : ℕ) → (found cs ≡ is m) ↔ ((m < 106) × (cs ≡ pattern m))
+look-is cs m = ((λ e. let r = found-is cs m e in (r .1, r .0)), (λ p. rw (p .1) (found-pattern m (p .0))))
+
+found-none : (cs : List ℕ) → NoPattern cs → found cs ≡ wornOrUnknown cs
+found-none cs none = elim (found-or-none cs) [ inl p ↦ let r = found-is cs (p .0) (p .1) in absurd (none (p .0) (r .1) (r .0)) | inr e ↦ e ]
+
+-- a block without a number is no pattern
+numberless : (cs : List ℕ) → ((m : ℕ) → found cs ≢ is m) → NoPattern cs × (found cs ≡ wornOrUnknown cs)
+numberless cs h = let none : NoPattern cs = λ m l e. h m (rw e (found-pattern m l)) in (none, found-none cs none)
+
+-- worn or unknown, by the number of bar cells
+pub odd-worn : (cs : List ℕ) → barCells cs % 2 ≡ 1 → wornOrUnknown cs ≡ worn
+unfolding wornOrUnknown
+odd-worn cs h = rw (eq-eqb (barCells cs % 2) 1 h)
+
+pub even-unknown : (cs : List ℕ) → barCells cs % 2 ≡ 0 → wornOrUnknown cs ≡ unknown
+unfolding wornOrUnknown
+even-unknown cs h = rw (ne-eqb (barCells cs % 2) 1 (omega arith))
+
+parity : (k : ℕ) → (k % 2 ≡ 0) ⊎ (k % 2 ≡ 1)
+parity k = elim (decLe (k % 2) 0) [ yes h ↦ inl (omega arith) | no h ↦ inr (omega arith) ]
+
+worn-not-unknown : {X : Type 0} → worn ≡ unknown → X
+worn-not-unknown e = absurd (let z : _≡_ {A = ℕ} 0 1 = cc in omega arith)
+
+pub look-worn : (cs : List ℕ) → (found cs ≡ worn) ↔ (NoPattern cs × (barCells cs % 2 ≡ 1))
+look-worn cs = (
+  (λ e.
+      let n = numberless cs (λ m q. let z : _≡_ {A = ℕ} 0 1 = cc in omega arith) in
+      (n .0, elim (parity (barCells cs)) [ inl h ↦ worn-not-unknown (sym e ∙ n .1 ∙ even-unknown cs h) | inr h ↦ h ])),
+  (λ p. found-none cs (p .0) ∙ odd-worn cs (p .1)),
+)
+
+pub look-unknown : (cs : List ℕ) → (found cs ≡ unknown) ↔ (NoPattern cs × (barCells cs % 2 ≡ 0))
+look-unknown cs = (
+  (λ e.
+      let n = numberless cs (λ m q. let z : _≡_ {A = ℕ} 0 1 = cc in omega arith) in
+      (n .0, elim (parity (barCells cs)) [ inl h ↦ h | inr h ↦ worn-not-unknown (sym (odd-worn cs h) ∙ sym (n .1) ∙ e) ])),
+  (λ p. found-none cs (p .0) ∙ even-unknown cs (p .1)),
+)
+
+-- an odd number of bar cells suffices: all patterns have an even one
+pub found-odd : (cs : List ℕ) → barCells cs % 2 ≡ 1 → found cs ≡ worn
+found-odd cs h = look-worn cs .1 ((λ m l e. let even = rw (← e) at (pattern-even m l) in omega arith), h)

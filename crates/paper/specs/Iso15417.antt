@@ -1,7 +1,7 @@
 -- What document 01 takes from ISO/IEC 15417: bar patterns, check, the meaning of each number in
--- each code set, the scanner reading.
+-- each code set, the scanner reading; and what a block of cells is looked up as.
 -- Document 01, "What is built", "Patterns and check", "Tokens and character sets", "Spelling and
--- scanner reading". Assumes nothing.
+-- scanner reading"; document 02, request 3. Assumes nothing.
 use Rattle.helpers.specs.Prelude.{ℕ, zero, suc, _+_, _-_, _*_, _/_, _%_, String, Bool, true, false, _&&_, List, [], _∷_, _++_, map, ltb, eqb, getD, replicate}
 use Rattle.helpers.specs.Answers.{if_then_else_}
 use Prim.Native.Char.{code}
@@ -55,14 +55,25 @@ same [] (y ∷ ys) = false
 same (x ∷ xs) [] = false
 same (x ∷ xs) (y ∷ ys) = eqb x y && same xs ys
 
--- what a block of cells is: the pattern of a number, or "none of the 106 patterns"
+-- how many cells are bar: the sum of cells 0 and 1
+unfoldable pub barCells : List ℕ → ℕ
+barCells [] = 0
+barCells (c ∷ cs) = c + barCells cs
+
+-- what a block of cells is: the pattern of a number; or "none of the 106 patterns", worn where the
+-- number of bar cells is odd and unknown where it is even
 pub data Look : Type 0 where
   is : ℕ → Look
-  unknown : Look
+  worn unknown : Look
+
+-- "A block that is no pattern and has an odd number of bar cells is now answered apart from one
+-- with an even number": worn if odd, unknown if even
+unfoldable pub wornOrUnknown : List ℕ → Look
+wornOrUnknown cs = if eqb (barCells cs % 2) 1 then worn else unknown
 
 -- a block looked for among these widths, the first of them that of the number m
 unfoldable pub foundIn : ℕ → List ℕ → List ℕ → Look
-foundIn m [] cs = unknown
+foundIn m [] cs = wornOrUnknown cs
 foundIn m (w ∷ ws) cs = if same (drawn w) cs then is m else foundIn (suc m) ws cs
 
 -- the same among the widths of all 106

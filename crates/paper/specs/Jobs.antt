@@ -1,9 +1,10 @@
 -- The seven jobs, each one definition whose lines are its refusals in document 01's order. `room`
 -- is the number of elements of the lent buffer.
--- Document 01, "What is built", "The seven jobs and their refusals", "Row record". Assumes nothing.
+-- Document 01, "What is built", "The seven jobs and their refusals", "Row record"; document 02,
+-- request 3. Assumes nothing.
 use Rattle.helpers.specs.Prelude.{ℕ, zero, suc, _+_, _-_, _*_, _/_, _%_, _≤_, Bool, true, _&&_, List, [], _∷_, _++_, leb, eqb, length, getD, take, drop}
 use Rattle.helpers.specs.Answers.{if_then_else_, Each, Answer, refuse, accept, Test, refuses, passes, _then_, ask, every, whole, into}
-use Rattle.paper.specs.Iso15417.{row, check, stop, Look, is, unknown, found, before, scanned}
+use Rattle.paper.specs.Iso15417.{row, check, stop, Look, is, worn, unknown, found, before, scanned}
 use Rattle.paper.specs.Crate.{isScalar, utf8Bytes, Parsed, stops, symbols, parse, spelled}
 
 -- ---- the limit
@@ -109,9 +110,11 @@ unfoldable pub withNumber : ℕ → Blocks → Blocks
 withNumber m (wrongBlock k b) = wrongBlock k b
 withNumber m (numbers ms) = numbers (m ∷ ms)
 
--- "12 before 13", at block b; `rest` is what comes of the blocks after it
+-- "12 before 13", and 16 "takes the odd cases of 12 at 12's place in the order", at block b; `rest`
+-- is what comes of the blocks after it
 unfoldable pub block : Look → ℕ → Blocks → Blocks
 block unknown b rest = wrongBlock 12 b
+block worn b rest = wrongBlock 16 b
 block (is m) b rest = if fitsAt b m then withNumber m rest else wrongBlock 13 b
 
 -- "for blocks 0 to n from the left": the next k blocks of eleven cells, the first of them block b
@@ -135,12 +138,12 @@ wanted k at [] cs = passes
 wanted k at (y ∷ ys) [] = refuses k at
 wanted k at (y ∷ ys) (c ∷ cs) = if eqb c y then wanted k (suc at) ys cs else refuses k at
 
--- "Read: 10, 11, then for blocks 0 to n from the left 12 before 13, then 15, 14, 5." The n + 1
--- numbers are the symbols and the check.
+-- "Read: 10, 11, then for blocks 0 to n from the left 12 before 13, then 15, 14, 5." 16 stands where
+-- 12 does. The n + 1 numbers are the symbols and the check.
 unfoldable pub read : ℕ → List ℕ → Answer
 read room cs =
     ofRow room cs λ n.  -- 10, 11; and 5 last
-    looked (blocksFrom (n + 1) 0 cs) λ ms.  -- 12, 13
+    looked (blocksFrom (n + 1) 0 cs) λ ms.  -- 12 or 16, 13
     wanted 15 (length cs - 13) stop (lastOf 13 cs) then
     ask (eqb (getD ms n 0) (check (take n ms))) 14 (check (take n ms)) then
     accept n (take n ms)

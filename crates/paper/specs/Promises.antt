@@ -1,18 +1,19 @@
 -- All that is promised of Code 128, in one record; `promises` of proofs/Promises.antt is its proof.
 -- Assumes nothing.
-use Rattle.helpers.specs.Prelude.{ℕ, _+_, _*_, _/_, _<_, _≤_, _≡_, _↔_, _≢_, _⊎_, false, some, List, [], _∷_, length, getD}
-use Rattle.helpers.specs.Answers.{Each, accept, Accepted, into}
+use Rattle.helpers.specs.Prelude.{ℕ, _+_, _*_, _/_, _%_, _<_, _≤_, _≡_, _↔_, _≢_, _⊎_, false, some, List, [], _∷_, length, getD, take, drop}
+use Rattle.helpers.specs.Answers.{Each, refuse, accept, Accepted, into}
 use Rattle.helpers.specs.Owes.{Owes}
-use Rattle.paper.specs.Iso15417.{points, Set, A, B, C, is, ascii, cells, count, row, pattern, found, column}
+use Rattle.paper.specs.Iso15417.{points, Set, A, B, C, is, worn, unknown, barCells, ascii, cells, count, row, pattern, found, column}
 use Rattle.paper.specs.Crate.{À, Ɓ, Ć, Ź, ź, Ż, ż, Ž, ÷, symbols, parse, letters, spans, numberIn, pointIn}
 use Rattle.paper.specs.Settle.{settle, inside, occurrences, withoutŹ}
 use Rattle.paper.specs.Chars.{chars, entry}
-use Rattle.paper.specs.Rules.{PatternRule, spot, differences, writes, sends, switches}
-use Rattle.paper.specs.Damage.{blocksOf, redrawn, verdict}
+use Rattle.paper.specs.Rules.{PatternRule, NoPattern, spot, differences, writes, sends, switches}
+use Rattle.paper.specs.Damage.{blocksOf, redrawn, verdict, flipped, flippedVerdict}
 use Rattle.paper.specs.Jobs.{SymbolList, most, encode, draw, read, spell, scan, pack, unpack}
 use Rattle.paper.specs.Labels.{answered, expected, starred}
 
--- demands 1, 2 and 3, and what document 01 says of spelling, scanning and records
+-- demands 1, 2 and 3, what document 01 says of spelling, scanning and records, and request 3 of
+-- document 02
 pub record Promises : Type 0 where
   -- ---- the tables
   -- The flat table has 106 entries of eleven cells: the standard's widths, drawn in turn.
@@ -24,6 +25,12 @@ pub record Promises : Type 0 where
   pub table-apart : (m k : ℕ) → m < 106 → k < 106 → entry m ≡ entry k → m ≡ k
   pub table-found : (m : ℕ) → m < 106 → found (entry m) ≡ is m
   pub table-pattern : (m : ℕ) → m < 106 → entry m ≡ pattern m
+  -- Request 3: the three cases of the lookup, exactly, for any list: a number, if the cells are its
+  -- pattern; worn, if they are none of the 106 and the number of bar cells is odd; unknown, if they
+  -- are none and it is even.
+  pub look-is : (cs : List ℕ) (m : ℕ) → (found cs ≡ is m) ↔ ((m < 106) × (cs ≡ pattern m))
+  pub look-worn : (cs : List ℕ) → (found cs ≡ worn) ↔ (NoPattern cs × (barCells cs % 2 ≡ 1))
+  pub look-unknown : (cs : List ℕ) → (found cs ≡ unknown) ↔ (NoPattern cs × (barCells cs % 2 ≡ 0))
   -- All numbers of all three sets and the STARTs, 103 in each set, against the standard's table: ÷
   -- for DEL at 95 in set B is the only difference.
   pub numbers-written : differences writes ≡ spot B 95 ∷ []
@@ -42,7 +49,7 @@ pub record Promises : Type 0 where
   -- elements that it ever writes: cells, symbols, code points or bytes. No row exceeds 2,829 cells.
   pub encode-owes : Owes encode (1 ∷ 2 ∷ 3 ∷ 4 ∷ 5 ∷ []) 2829
   pub draw-owes : Owes draw (10 ∷ 13 ∷ 5 ∷ []) 2829
-  pub read-owes : Owes read (10 ∷ 11 ∷ 12 ∷ 13 ∷ 15 ∷ 14 ∷ 5 ∷ []) 255
+  pub read-owes : Owes read (10 ∷ 11 ∷ 12 ∷ 16 ∷ 13 ∷ 15 ∷ 14 ∷ 5 ∷ []) 255
   pub spell-owes : Owes spell (10 ∷ 13 ∷ 5 ∷ []) 509
   pub scan-owes : Owes scan (10 ∷ 13 ∷ 5 ∷ []) 508
   pub pack-owes : Owes pack (10 ∷ 11 ∷ 5 ∷ []) 356
@@ -85,6 +92,14 @@ pub record Promises : Type 0 where
   -- it is an acceptance exactly for a data number at a data place 103 or 206.
   pub replaced-accepted : (room : ℕ) (s : List ℕ) → SymbolList s → length s ≤ room → (i m : ℕ) → i ≤ length s → m < 106 → m ≢ getD (blocksOf s) i 0
       → Accepted (read room (redrawn i m (row s))) ↔ (((i ≡ 103) ⊎ (i ≡ 206)) × (i < length s) × (m ≤ 102))
+  -- Request 3: read refuses a block by 16 only if it is worn, and by 12 only if it is unknown.
+  pub read-worn : (room : ℕ) (cs : List ℕ) (b : ℕ) → read room cs ≡ refuse 16 b → found (take 11 (drop (11 * b) cs)) ≡ worn
+  pub read-unknown : (room : ℕ) (cs : List ℕ) (b : ℕ) → read room cs ≡ refuse 12 b → found (take 11 (drop (11 * b) cs)) ≡ unknown
+  -- Request 3: one cell of an accepted row is flipped. The answer at every place, into any room;
+  pub flipped-exactly : (room : ℕ) (s : List ℕ) → SymbolList s → (i : ℕ) → i < length (row s) → read room (flipped i (row s)) ≡ flippedVerdict s i
+  -- so an accepted row with any one cell flipped is refused.
+  pub flipped-refused : (room room′ : ℕ) (r : List ℕ) (n : ℕ) (s : List ℕ) → read room r ≡ accept n s → (i : ℕ) → i < length r
+      → Accepted (read room′ (flipped i r)) → ⊥
   -- ---- spell and scan
   -- What spell writes encodes to the list's row and has no Ź inside a pair, and no other input
   -- does; it has at most 509 code points.

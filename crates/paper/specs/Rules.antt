@@ -1,8 +1,9 @@
 -- The rule of the table of patterns, and the crate's numbers held against the standard's table.
--- Document 01, "Patterns and check" and "Tokens and character sets". Assumes nothing.
-use Rattle.helpers.specs.Prelude.{ℕ, suc, _+_, _-_, _%_, _≤_, _≡_, _≢_, Bool, true, false, List, [], _∷_, _++_, eqb, length, getD, take}
+-- Document 01, "Patterns and check", "Tokens and character sets" and, for "none of the 106
+-- patterns", "The seven jobs and their refusals". Assumes nothing.
+use Rattle.helpers.specs.Prelude.{ℕ, suc, _-_, _%_, _<_, _≤_, _≡_, _≢_, Bool, true, false, List, [], _∷_, _++_, eqb, length, getD, take}
 use Rattle.helpers.specs.Answers.{if_then_else_, Each}
-use Rattle.paper.specs.Iso15417.{Set, before, A, B, C, Meaning, ascii, pair, FNC, SHIFT, CODE, START, stop, same, next, digits, sent, column}
+use Rattle.paper.specs.Iso15417.{Set, before, A, B, C, Meaning, ascii, pair, FNC, SHIFT, CODE, START, pattern, stop, same, barCells, next, digits, sent, column}
 use Rattle.paper.specs.Crate.{À, Ɓ, Ć, Ź, ź, Ż, ż, Ž, letters}
 
 -- ---- the table
@@ -18,11 +19,6 @@ runs [] = []
 runs (c ∷ []) = 1 ∷ []
 runs (c ∷ d ∷ cs) = longer (eqb c d) (runs (d ∷ cs))
 
--- how many cells are bar
-unfoldable pub barCells : List ℕ → ℕ
-barCells [] = 0
-barCells (c ∷ cs) = c + barCells cs
-
 -- "Every pattern begins with 1 and ends with 0, has three bars and three spaces of 1 to 4 cells, an
 -- even number of bar cells, and equals no other pattern nor the first eleven cells of the stop."
 -- (That no two are equal is `table-apart` of Promises.)
@@ -35,6 +31,10 @@ pub record PatternRule (p : List ℕ) : Type 0 where
   pub narrow : Each (λ w. (1 ≤ w) × (w ≤ 4)) (runs p)
   pub even : barCells p % 2 ≡ 0
   pub no-stop : p ≢ take 11 stop
+
+-- "none of the 106 patterns", as a statement
+abbrev pub NoPattern : List ℕ → Type 0
+NoPattern cs = (m : ℕ) → m < 106 → cs ≢ pattern m
 
 -- ---- the numbers of the code sets
 -- the code point that names a set

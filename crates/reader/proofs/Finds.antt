@@ -11,7 +11,7 @@ use lib.ListN.{length, getD, take, drop, length-drop, drop-of-length-le}
 use lib.Seq.{drop-cons, length-take-le, getD-take, getD-drop}
 use borrow.Author.Tests.{eq-eqb, ne-eqb}
 use Rattle.paper.specs.Chars.{chars, entry}
-use Rattle.paper.specs.Iso15417.{widths, pattern, same, is, unknown, foundIn, found}
+use Rattle.paper.specs.Iso15417.{widths, pattern, same, is, wornOrUnknown, foundIn, found}
 use Rattle.paper.proofs.Table.{table-length, table-pattern}
 
 -- the eleven cells of a list from a place on
@@ -19,10 +19,10 @@ abbrev pub part : List ℕ → ℕ → List ℕ
 part l a = take 11 (drop a l)
 
 module _ (l : List ℕ) (a : ℕ) where
-  part-length : a + 11 ≤ length l → length (part l a) ≡ 11
+  pub part-length : a + 11 ≤ length l → length (part l a) ≡ 11
   part-length h = length-take-le 11 (drop a l) (omega (arith, length-drop a l))
 
-  part-at : (j : ℕ) → j < 11 → getD (part l a) j 0 ≡ getD l (a + j) 0
+  pub part-at : (j : ℕ) → j < 11 → getD (part l a) j 0 ≡ getD l (a + j) 0
   part-at j h = getD-take 11 (drop a l) j 0 h ∙ getD-drop a l j 0
 
 -- A loop that compares eleven cells of t from a on with those of r from b on, and has come to cell
@@ -92,6 +92,6 @@ module _ {block : List ℕ} {s : ℕ} (p : Hunting block s) where
       let one : same (pattern s) block ≡ true = rw (c, table-pattern s h) at e in
       sym (p .rest ∙ rw (drop-cons widths s 0 (omega (arith, all-widths)), one) refl)
 
-  pub hunt-end : 106 ≤ s → unknown ≡ found block
+  pub hunt-end : 106 ≤ s → wornOrUnknown block ≡ found block
   unfolding foundIn
   hunt-end h = sym (p .rest ∙ rw (drop-of-length-le widths {i = s} (omega (arith, all-widths))) refl)

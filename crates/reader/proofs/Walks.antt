@@ -13,10 +13,10 @@ use lib.ListN.{length, take, drop, set, length-set}
 use lib.Seq.{drop-drop, take-suc-set}
 use borrow.Author.Tests.{le-leb, lt-leb}
 use Rattle.helpers.proofs.Ahead.{ahead, ahead-one, ahead-stays, ahead-all}
-use Rattle.paper.specs.Iso15417.{Look, is, unknown, found}
+use Rattle.paper.specs.Iso15417.{Look, is, worn, unknown, found}
 use Rattle.paper.specs.Jobs.{isStart, isData, Blocks, wrongBlock, numbers, fitsAt, withNumber, block, blocksFrom}
 use Rattle.reader.specs.declared.Found.{Found}
-use Rattle.reader.specs.declared.Found.the-variants.{Symbol, Nothing}
+use Rattle.reader.specs.declared.Found.the-variants.{Symbol, Worn, Unknown}
 use Rattle.reader.specs.Parts.{lookOf}
 
 -- ---- what may stand at a block
@@ -41,13 +41,17 @@ module _ (b m : ℕ) (first : b ≡ 0) where
 
 -- ---- what `find` answered of the block at hand
 
-pub look-nothing : {f : Found} {x : Look} → f ≡ Nothing → lookOf f ≡ x → unknown ≡ x
+pub found-worn : {f : Found} {x : Look} → f ≡ Worn → lookOf f ≡ x → worn ≡ x
 unfolding lookOf
-look-nothing e h = rw e at h
+found-worn e h = rw e at h
 
-pub look-symbol : {f : Found} {m : ℕ} {x : Look} → f ≡ Symbol m → lookOf f ≡ x → is m ≡ x
+pub found-unknown : {f : Found} {x : Look} → f ≡ Unknown → lookOf f ≡ x → unknown ≡ x
 unfolding lookOf
-look-symbol e h = rw e at h
+found-unknown e h = rw e at h
+
+pub found-symbol : {f : Found} {m : ℕ} {x : Look} → f ≡ Symbol m → lookOf f ≡ x → is m ≡ x
+unfolding lookOf
+found-symbol e h = rw e at h
 
 -- ---- the numbers of the blocks passed, before what the others give
 
@@ -78,6 +82,10 @@ module _ {count : ℕ} {cs l₀ l : List ℕ} {b : ℕ} (p : Walking count cs l�
       let more : count - b ≡ suc (count - suc b) = omega arith in
       let next : 11 * b + 11 ≡ 11 * suc b = omega arith in
       p .rest ∙ rw (more, drop-drop 11 (11 * b) cs, next) refl
+
+  pub walk-worn : b < count → worn ≡ found (take 11 (drop (11 * b) cs)) → wrongBlock 16 b ≡ blocksFrom count 0 cs
+  unfolding block
+  walk-worn h e = sym (here h ∙ rw (← e) (after-wrong (take b l) 16 b))
 
   pub walk-unknown : b < count → unknown ≡ found (take 11 (drop (11 * b) cs)) → wrongBlock 12 b ≡ blocksFrom count 0 cs
   unfolding block

@@ -1,34 +1,57 @@
-// Read: a row of cells back to the symbol list that it was drawn from.
+// Read: a row of cells back to the symbol list that it was drawn from. A block that is no pattern
+// is answered as worn or as unknown.
 ghost use Prim.Native.Nat.{_+_, _*_, _<_, _≤_};
 ghost use mathlib.Core.Path.{_≡_};
 ghost use mathlib.Core.List.{[]};
 ghost use lib.ListN.{length, take, drop};
-ghost use Rattle.helpers.specs.Answers.{accept, _then_, Gave};
+ghost use Rattle.helpers.specs.Answers.{Each, accept, _then_, Gave};
 ghost use Rattle.paper.specs.Chars.{chars};
 ghost use Rattle.paper.specs.Iso15417.{found};
 ghost use Rattle.paper.specs.Jobs as Paper;
 ghost use Rattle.paper.specs.Jobs.{fitsAt, blocksFrom, wanted};
 ghost use Rattle.helpers.specs.Numbers.{numberOf, secondOf};
 ghost use Rattle.helpers.specs.Contracts.{answers};
-ghost use Rattle.reader.specs.Parts.{lookOf, walkOf, stopAsked, checkAsked, Judged};
+ghost use Rattle.reader.specs.Parts.{wordOf, lookOf, walkOf, stopAsked, checkAsked, Judged};
 use helpers::Answer;
 use helpers::Refusal;
 
-// What a block of eleven cells is: the pattern of a symbol, or none of the 106.
+// What a block of eleven cells is: the pattern of a symbol, or none of the 106 patterns.
 enum Found {
     Symbol(u8),
-    Nothing,
+    // None of the patterns, and an odd number of bar cells, as where one cell is worn.
+    Worn,
+    // None of the patterns, and an even number of bar cells.
+    Unknown,
+}
+
+// The eleven cells from place `at` on as one word, the first cell in the top bit, so that its ones
+// are the bar cells.
+fn word(row: &[u8], at: usize) -> u16
+    requires { ⌜ (at + 11 ≤ length (now row)) × Each (λ c. c ≤ 1) (now row) ⌝ }
+    ensures { λ r. ⌜ r ≡ wordOf 0 (take 11 (drop at (now (row .entry)))) ⌝ }
+{
+    let mut w: u16 = 0;
+    let mut j: usize = 0;
+    while j < 11 {
+        w = w * 2 + row[at + j] as u16;
+        j += 1;
+    }
+    w
 }
 
 // Looks up the eleven cells from place `at` on in the table, pattern by pattern and cell by cell.
+// If they are none of the 106, the count of ones of their word decides between worn and unknown.
 fn find(row: &[u8], at: usize, table: &[u8]) -> Found
-    requires { ⌜ (at + 11 ≤ length (now row)) × (now table ≡ chars) ⌝ }
+    requires { ⌜ (at + 11 ≤ length (now row)) × Each (λ c. c ≤ 1) (now row) × (now table ≡ chars) ⌝ }
     ensures { λ r. ⌜ lookOf r ≡ found (take 11 (drop at (now (row .entry)))) ⌝ }
 {
     let mut s: usize = 0;
     'search: loop {
         if s == 106 {
-            break 'search Found::Nothing;
+            if u16::count_ones(word(row, at)) % 2 == 1 {
+                break 'search Found::Worn;
+            }
+            break 'search Found::Unknown;
         }
         let mut j: usize = 0;
         'cells: loop {
@@ -57,22 +80,25 @@ fn fits(b: usize, m: u8) -> bool
     }
 }
 
-// Looks up the first `count` blocks, each once, and stores their numbers; refuses 12 or 13 at the
-// first wrong one.
+// Looks up the first `count` blocks, each once, and stores their numbers; refuses 12, 16 or 13 at
+// the first wrong one.
 fn blocks(row: &[u8], count: usize, list: &mut [u8]) -> Answer
-    requires { ⌜ (11 * count ≤ length (now row)) × (count ≤ length (now list)) ⌝ }
+    requires { ⌜ (11 * count ≤ length (now row)) × Each (λ c. c ≤ 1) (now row) × (count ≤ length (now list)) ⌝ }
     ensures { λ r. ⌜ walkOf count r (now (list .exit)) ≡ blocksFrom count 0 (now (row .entry)) ⌝ }
 {
     let table = code128::chars::table();
     let mut b: usize = 0;
     while b < count {
-        let Found::Symbol(m) = find(row, 11 * b, &table) else {
-            return Answer::Refused(Refusal::Pattern, b);
-        };
-        if !fits(b, m) {
-            return Answer::Refused(Refusal::Place, b);
+        match find(row, 11 * b, &table) {
+            Found::Symbol(m) => {
+                if !fits(b, m) {
+                    return Answer::Refused(Refusal::Place, b);
+                }
+                list[b] = m;
+            }
+            Found::Worn => return Answer::Refused(Refusal::Worn, b),
+            Found::Unknown => return Answer::Refused(Refusal::Pattern, b),
         }
-        list[b] = m;
         b += 1;
     }
     Answer::Done(count)
@@ -121,8 +147,8 @@ fn checks(list: &[u8], n: usize) -> Answer
     Answer::Done(n)
 }
 
-// All tests of read but that of the room, in their order: 10, 11, 12 and 13, 15, 14. The symbols go
-// to the front of `list`.
+// All tests of read but that of the room, in their order: 10, 11, 12 or 16 and 13, 15, 14. The
+// symbols go to the front of `list`.
 fn judge(row: &[u8], list: &mut [u8]) -> Answer
     requires { ⌜ 256 ≤ length (now list) ⌝ }
     ensures { λ r. ⌜ Judged (now (row .entry)) r (now (list .exit)) ⌝ }

@@ -254,7 +254,15 @@ fn look_up(block: &[u8]) -> Option<u8> {
     Some(SYMBOLS[word]).filter(|&symbol| symbol != NONE)
 }
 
-/// Read, with its tests in their order: 10, 11, then 12 and 13 from the left, then 15, 14, 5.
+/// Why a block that is no pattern is refused: 16 if the number of its bar cells is odd, otherwise 12.
+fn no_pattern(block: &[u8]) -> u32 {
+    match block.iter().filter(|&&cell| cell == 1).count() % 2 {
+        1 => 16,
+        _ => 12,
+    }
+}
+
+/// Read, with its tests in their order: 10, 11, then 12 or 16 and 13 from the left, then 15, 14, 5.
 fn try_read(
     row: &[u8],
     symbols: &mut [u8],
@@ -264,7 +272,7 @@ fn try_read(
     let mut list = [0; MOST + 1];
     let (blocks, stop) = row.split_at(11 * (n + 1));
     for (b, (block, place)) in blocks.chunks_exact(11).zip(&mut list).enumerate() {
-        let symbol = find(block).ok_or((12, b))?;
+        let symbol = find(block).ok_or_else(|| (no_pattern(block), b))?;
         if (symbol > 102) != (b == 0) {
             return Err((13, b));
         }

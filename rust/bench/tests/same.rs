@@ -181,12 +181,15 @@ fn on_damaged_rows_and_records() {
     let l = label(list(&mut random, Kind::B, 4));
     for at in 0..l.row.len() {
         let mut row = l.row.clone();
-        row[at] ^= 1;
-        seen[same(&row, 9, slatmonief::read, plain::read).0 as usize] += 1;
-        same(&row, 9, slatmonief::read, plain::table_read);
+        // One cell flipped, and then its neighbour too.
+        for place in [at, (at + 1) % l.row.len()] {
+            row[place] ^= 1;
+            seen[same(&row, 9, slatmonief::read, plain::read).0 as usize] += 1;
+            same(&row, 9, slatmonief::read, plain::table_read);
+        }
     }
     assert!(
-        [0, 10, 11, 12, 13, 14, 15, 20, 21, 22, 23]
+        [0, 10, 11, 12, 13, 14, 15, 16, 20, 21, 22, 23]
             .iter()
             .all(|&number| seen[number] > 0),
         "{seen:?}"

@@ -374,13 +374,27 @@ impl<'a> Worker<'a> {
         Ok(())
     }
 
+    /// Compares read with the model.
+    pub fn read(&mut self, row: &[u8], room: usize, mark: u8) -> Outcome {
+        let said = self.model.read(row, room);
+        self.read_known(row, &said, room, mark)
+    }
+
+    /// Compares read with a known answer.
+    pub fn read_known(&mut self, row: &[u8], said: &Said<u8>, room: usize, mark: u8) -> Outcome {
+        let face = self.face;
+        let answer = lend(&mut self.bytes, room, mark, |list| face.read(row, list));
+        if !agrees(&self.bytes, mark, answer, said) {
+            let (subject, buffer) = (Subject::Read, &self.bytes);
+            return Err(fault(subject, wide(row), room, mark, said, answer, buffer));
+        }
+        self.tally.call(answer.0);
+        Ok(answer.0)
+    }
+
     with_model! {
         /// Compares draw with the model.
         draw, Draw, bytes, u8
-    }
-    with_model! {
-        /// Compares read with the model.
-        read, Read, bytes, u8
     }
     with_model! {
         /// Compares spell with the model.

@@ -93,6 +93,14 @@ pub enum Plant {
     Room,
     /// Read answers a wrong check before a wrong stop.
     CheckFirst,
+    /// Read answers 12 for 16.
+    Worn,
+    /// Read answers 16 for 12.
+    Unknown,
+    /// Refusal 16 with the place of the first cell of the block.
+    WornPlace,
+    /// Read answers a later 12 or 13 before 16.
+    WornLast,
     /// Unpack answers a wrong length or a spare bit before a wrong version.
     VersionLast,
     /// Draw answers a short buffer before a number that is not allowed at its place.
@@ -110,7 +118,7 @@ pub enum Plant {
 }
 
 /// Every plant and its name on the command line.
-pub const PLANTS: [(&str, Plant); 19] = [
+pub const PLANTS: [(&str, Plant); 23] = [
     ("place", Plant::Place),
     ("weight", Plant::Weight),
     ("touched", Plant::Touched),
@@ -123,6 +131,10 @@ pub const PLANTS: [(&str, Plant); 19] = [
     ("points", Plant::Points),
     ("room", Plant::Room),
     ("check-first", Plant::CheckFirst),
+    ("worn", Plant::Worn),
+    ("unknown", Plant::Unknown),
+    ("worn-place", Plant::WornPlace),
+    ("worn-last", Plant::WornLast),
     ("version-last", Plant::VersionLast),
     ("room-first", Plant::RoomFirst),
     ("character-first", Plant::CharacterFirst),
@@ -158,6 +170,18 @@ impl Wrong {
             .sum::<usize>()
             % 103;
         row[11 * n..11 * n + 11].copy_from_slice(self.model.pattern(check as u8));
+    }
+
+    /// What read answers once no block is worn: each worn block, from this one on, has an allowed
+    /// number put into it.
+    fn after_worn(&self, row: &[u8], block: usize) -> Answer {
+        let mut row = row.to_vec();
+        let number = if block == 0 { 103 } else { 0 };
+        row[11 * block..11 * block + 11].copy_from_slice(self.model.pattern(number));
+        match True.read(&row, &mut []) {
+            (16, next) => self.after_worn(&row, next),
+            answer => answer,
+        }
     }
 
     /// The row with the right check.
@@ -244,6 +268,13 @@ impl Face for Wrong {
             (Plant::CheckFirst, (15, place)) => match True.read(&with_stop(row), &mut []) {
                 (14, right) => (14, right),
                 _ => (15, place),
+            },
+            (Plant::Worn, (16, block)) => (12, block),
+            (Plant::Unknown, (12, block)) => (16, block),
+            (Plant::WornPlace, (16, block)) => (16, 11 * block),
+            (Plant::WornLast, (16, block)) => match self.after_worn(row, block) {
+                (number @ (12 | 13), later) => (number, later),
+                _ => (16, block),
             },
             (_, answer) => answer,
         }

@@ -1,5 +1,5 @@
-//! Compares the library with the crate barcoders (encode), and with a plain model of document 01
-//! (the other six jobs).
+//! Compares the library with the crate barcoders (encode), and with a plain model of documents 01
+//! and 02 (the other six jobs).
 //!
 //! Every call is compared in full: the answer number, the second number, and every element of the
 //! lent buffer and of a fence around it. One function decides where encode may differ from the
@@ -47,7 +47,7 @@ const fn part(name: &'static str, encode: bool, work: fn(&Run) -> run::Result<Ta
 }
 
 /// Every part, in the order of a run.
-pub const PARTS: [Part; 17] = [
+pub const PARTS: [Part; 18] = [
     part("encode-all", true, encode::all),
     part("encode-points", true, encode::points),
     part("encode-lengths", true, |run| {
@@ -61,6 +61,11 @@ pub const PARTS: [Part; 17] = [
     part("read-all", false, read::all),
     part("read-replaced", false, read::replaced),
     part("read-cells", false, read::cells),
+    part("read-worn", false, |run| {
+        let mut tally = read::pairs(run)?;
+        tally.add(&read::beside(run)?);
+        Ok(tally)
+    }),
     part("read-lengths", false, read::lengths),
     part("read-random", false, read::random),
     part("rooms", false, read::rooms),
@@ -76,8 +81,8 @@ pub const PARTS: [Part; 17] = [
     part("records-random", false, records::random),
 ];
 
-/// The numbers of document 01's refusals.
-const REFUSALS: [usize; 15] = [1, 2, 3, 4, 5, 10, 11, 12, 13, 14, 15, 20, 21, 22, 23];
+/// The numbers of the refusals in documents 01 and 02.
+const REFUSALS: [usize; 16] = [1, 2, 3, 4, 5, 10, 11, 12, 13, 14, 15, 16, 20, 21, 22, 23];
 
 /// What a whole run must come across and this tally has not: an accepted call, each refusal, each
 /// row of the list, the type with the crate's signatures.

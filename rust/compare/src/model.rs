@@ -1,5 +1,5 @@
-//! A plain model of six jobs, written from document 01. It is given the bar patterns and uses
-//! nothing else.
+//! A plain model of six jobs, written from document 01 and request 3 of document 02. It is given
+//! the bar patterns and uses nothing else.
 
 /// What a job must answer: the answer number, the second number, and the elements at the front of
 /// the buffer (none for a refusal).
@@ -171,6 +171,15 @@ fn word(block: &[u8]) -> Option<usize> {
     })
 }
 
+/// The refusal of a block that is no pattern: 16 if the number of its bar cells is odd, 12 if it is
+/// even.
+fn no_pattern(block: &[u8]) -> u32 {
+    match block.iter().filter(|&&cell| cell == 1).count() % 2 {
+        1 => 16,
+        _ => 12,
+    }
+}
+
 impl Model {
     /// The model with these patterns, in the order of their numbers.
     pub fn new(patterns: [[u8; 11]; 106]) -> Model {
@@ -246,7 +255,8 @@ impl Model {
         in_room(room, bytes.len(), bytes)
     }
 
-    /// Read, with the refusals 10, 11, then 12 and 13 block by block from the left, then 15, 14, 5.
+    /// Read, with the refusals 10, 11, then 12 or 16 and 13 block by block from the left, then 15,
+    /// 14, 5.
     pub fn read(&self, row: &[u8], room: usize) -> Said<u8> {
         let Some(n) = symbols_of(row.len()) else {
             return refuse(10, row.len());
@@ -257,7 +267,7 @@ impl Model {
         let mut list = Vec::with_capacity(n + 1);
         for (place, block) in row[..11 * (n + 1)].chunks(11).enumerate() {
             match self.number(block) {
-                None => return refuse(12, place),
+                None => return refuse(no_pattern(block), place),
                 Some(number) if !allowed_at(number, place) => return refuse(13, place),
                 Some(number) => list.push(number),
             }

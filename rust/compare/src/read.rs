@@ -2,7 +2,7 @@
 use crate::ask;
 use crate::check::{broken, wide, Subject, Tally, Worker};
 use crate::inputs;
-use crate::model::{self, Model, LIMIT, SWITCH};
+use crate::model::{self, refuse, Model, LIMIT, STOP, SWITCH};
 use crate::random::Random;
 use crate::run::{Result, Run};
 use std::collections::HashSet;
@@ -82,7 +82,7 @@ pub fn all(run: &Run) -> Result<Tally> {
 fn lists(run: &Run, part: &str) -> Vec<Vec<u8>> {
     let mut random = Random::new(run.seed, part, 0);
     let lengths = [
-        1, 1, 1, 2, 3, 5, 9, 17, 40, 103, 104, 105, 206, 207, 208, 255,
+        1, 1, 1, 2, 3, 5, 9, 14, 17, 40, 103, 104, 105, 206, 207, 208, 255,
     ];
     lengths
         .iter()
@@ -157,8 +157,114 @@ fn spoiled_at(worker: &mut Worker, good: &[u8], place: usize) -> Result<()> {
         worker.tally.inputs += 1;
         worker.read(&row, LIMIT, 0x5C)?;
         worker.pack(&row, 356, 0x5C)?;
+        if cell <= 1 {
+            flipped_at(worker, &row, place)?;
+        }
     }
     Ok(())
+}
+
+/// Compares read on a row whose cell at this place is flipped, with buffers from none to the
+/// longest: refusal 16 with the block, or 15 with the place if it is one of the last 13 cells.
+fn flipped_at(worker: &mut Worker, row: &[u8], place: usize) -> Result<()> {
+    let n = (row.len() - 24) / 11;
+    let said = if place < 11 * (n + 1) {
+        refuse(16, place / 11)
+    } else {
+        refuse(15, place)
+    };
+    let mut rooms = vec![0, n - 1, n, LIMIT];
+    rooms.dedup();
+    rooms
+        .into_iter()
+        .try_for_each(|room| worker.read_known(row, &said, room, 0xA7).map(drop))
+}
+
+/// Two cells of one block flipped, every two cells of every block. If the block is then no pattern,
+/// read refuses by 12, since the number of bar cells stays even; the model knows the other answers.
+pub fn pairs(run: &Run) -> Result<Tally> {
+    let lists = lists(run, "read-pairs");
+    let places = list_blocks(&lists);
+    run.blocks(places.len() as u64, |worker, number| {
+        let (index, block) = places[number as usize];
+        let good = worker.model.row_of_list(&lists[index]);
+        let cells = 11 * block..11 * block + 11;
+        for first in cells.clone() {
+            for second in first + 1..cells.end {
+                let mut row = good.clone();
+                row[first] ^= 1;
+                row[second] ^= 1;
+                worker.tally.inputs += 1;
+                worker.read(&row, LIMIT, 0xA7)?;
+                let number = worker.model.number(&row[cells.clone()]);
+                if number.is_none() {
+                    worker.read_known(&row, &refuse(12, block), LIMIT, 0xA7)?;
+                }
+            }
+        }
+        Ok(())
+    })
+}
+
+/// The refusals of a wrong block.
+const WAYS: [u32; 3] = [12, 13, 16];
+
+/// Two wrong blocks, and also a wrong stop: read answers the left block, whatever is wrong to the
+/// right of it. Every block of a row is the left one, beside the next block and beside the check.
+pub fn beside(run: &Run) -> Result<Tally> {
+    let lists = lists(run, "read-beside");
+    let places = list_blocks(&lists);
+    run.blocks(places.len() as u64, |worker, number| {
+        let mut random = Random::new(run.seed, "read-beside", number);
+        let (index, left) = places[number as usize];
+        let n = lists[index].len();
+        let mut rights = vec![left + 1, n];
+        rights.dedup();
+        rights.retain(|&right| left < right && right <= n);
+        rights
+            .into_iter()
+            .try_for_each(|right| both_wrong(worker, &mut random, &lists[index], left, right))
+    })
+}
+
+/// Compares read on a row with two wrong blocks, each in every way, with the right stop and with a
+/// wrong one.
+fn both_wrong(
+    worker: &mut Worker,
+    random: &mut Random,
+    list: &[u8],
+    left: usize,
+    right: usize,
+) -> Result<()> {
+    let ways = WAYS
+        .into_iter()
+        .flat_map(|here| WAYS.map(|there| (here, there)));
+    for (here, there) in ways {
+        let mut row = worker.model.row_of_list(list);
+        spoil_block(random, worker.model, &mut row, left, here);
+        spoil_block(random, worker.model, &mut row, right, there);
+        let stop = row.len() - 1 - random.below(13);
+        for _ in 0..2 {
+            worker.tally.inputs += 1;
+            worker.read(&row, list.len(), 0xA7)?;
+            worker.read_known(&row, &refuse(here, left), list.len(), 0xA7)?;
+            row[stop] ^= 1;
+        }
+    }
+    Ok(())
+}
+
+/// Makes a block of a good row wrong, so that read refuses it by this number: 12 for all spaces or
+/// the front of the stop, 13 for a number that may not stand there, 16 for one cell flipped.
+fn spoil_block(random: &mut Random, model: &Model, row: &mut [u8], block: usize, number: u32) {
+    let cells = &mut row[11 * block..11 * block + 11];
+    match (number, block) {
+        (12, _) if random.chance(50) => cells.fill(0),
+        (12, _) => cells.copy_from_slice(&STOP[..11]),
+        (13, 0) => cells.copy_from_slice(model.pattern(random.below(103) as u8)),
+        (13, _) => cells.copy_from_slice(model.pattern(103 + random.below(3) as u8)),
+        _ => cells[random.below(11)] ^= 1,
+    }
 }
 
 /// Random rows, damaged in up to four places.

@@ -87,6 +87,31 @@ fn patterns_follow_their_rule() {
     }
 }
 
+/// A block that is no pattern is worn (16) if it has an odd number of bar cells, and unknown (12)
+/// if it has an even number; the stop has its own refusal, 15.
+#[test]
+fn blocks_worn_and_unknown() {
+    let model = Model::new(patterns());
+    let row = model.row_of_list(&[104, 33, 41, 45, 99, 12, 34]);
+    let cases: [(&[usize], (u32, usize)); 6] = [
+        (&[19], (16, 1)),
+        (&[12, 19], (12, 1)),
+        (&[12, 19, 22], (12, 1)),
+        (&[12, 22, 23], (16, 1)),
+        (&[80], (16, 7)),
+        (&[88], (15, 88)),
+    ];
+    for (places, expected) in cases {
+        let mut row = row.clone();
+        places.iter().for_each(|&place| row[place] ^= 1);
+        let said = model.read(&row, 255);
+        assert_eq!((said.number, said.second), expected, "{places:?}");
+    }
+    for (cell, number) in [(0, 12), (1, 16)] {
+        assert_eq!(model.read(&[cell; 35], 0).number, number);
+    }
+}
+
 /// Every name of the list is a row of docs/DIFFERENCES.md, and the list leaves out no row.
 #[test]
 fn the_list_is_the_one_in_the_docs() {

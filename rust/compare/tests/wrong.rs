@@ -151,6 +151,48 @@ fn a_check_answered_before_the_stop() {
 }
 
 #[test]
+fn a_worn_block_answered_as_unknown() {
+    for part in ["read-cells", "read-worn", "read-random"] {
+        let (subject, input, _, expected, got) = found(Plant::Worn, part);
+        assert_eq!((subject, input.len()), (Subject::Read, 35));
+        assert!(
+            expected.starts_with("16 0, ") && got.starts_with("12 0, "),
+            "{expected} and {got}"
+        );
+    }
+}
+
+#[test]
+fn an_unknown_block_answered_as_worn() {
+    let (subject, input, _, expected, got) = found(Plant::Unknown, "read-worn");
+    assert_eq!((subject, input.len()), (Subject::Read, 35));
+    assert!(
+        expected.starts_with("12 0, ") && got.starts_with("16 0, "),
+        "{expected} and {got}"
+    );
+}
+
+#[test]
+fn a_worn_block_with_the_place_of_a_cell() {
+    let (subject, input, _, expected, got) = found(Plant::WornPlace, "read-cells");
+    assert_eq!((subject, input.len()), (Subject::Read, 35));
+    assert!(
+        expected.starts_with("16 1, ") && got.starts_with("16 11, "),
+        "{expected} and {got}"
+    );
+}
+
+#[test]
+fn a_worn_block_answered_after_a_later_one() {
+    let (subject, input, _, expected, got) = found(Plant::WornLast, "read-worn");
+    assert_eq!((subject, input.len()), (Subject::Read, 35));
+    assert!(
+        expected.starts_with("16 0, ") && got.starts_with("12 1, "),
+        "{expected} and {got}"
+    );
+}
+
+#[test]
 fn a_length_answered_before_the_version() {
     let (subject, input, _, expected, got) = found(Plant::VersionLast, "records-random");
     assert_eq!((subject, input), (Subject::Unpack, vec![0, 0]));
@@ -258,7 +300,7 @@ fn kinds_that_did_not_occur() {
         unmet(&tally),
         ["refusal 23", "the row '÷ for DEL: number 95 in set B'"]
     );
-    assert_eq!(unmet(&Tally::default()).len(), 2 + 15 + 7);
+    assert_eq!(unmet(&Tally::default()).len(), 2 + 16 + 7);
 }
 
 /// The report of a claim about a whole part says that its input was not made smaller.

@@ -195,22 +195,32 @@ job! {
     /// |---|---|---|
     /// | 10 | no row has this length | the length |
     /// | 11 | a cell is neither 0 nor 1 | the first such place |
-    /// | 12 | a block of eleven cells is none of the 106 patterns | the block |
+    /// | 12 | a block is none of the 106 patterns and has an even number of bar cells | the block |
+    /// | 16 | a block is none of the 106 patterns and has an odd number of bar cells | the block |
     /// | 13 | block 0 is not a START, or a later block is one | the block |
-    /// | 15 | the last 13 cells are not the stop | the place of the first wrong cell |
+    /// | 15 | the last 13 cells are not the stop | the place of the first wrong cell in the row |
     /// | 14 | the check is wrong | the check that would be right |
     /// | 5 | `symbols` is too short | n |
     ///
-    /// Refusals 12 and 13 are tested together, block by block from the left. Block 0 is the START,
-    /// and block n is the check.
+    /// Refusals 12, 16 and 13 are tested together, block by block from the left, 12 or 16 before
+    /// 13. A block is eleven cells. Block 0 is the START, and block n is the check.
+    ///
+    /// An accepted row with one worn cell is always refused: by 15 if that cell is one of the last
+    /// 13, otherwise by 16, and never by 12. So photograph the label again after 16, and print it
+    /// again after 12. More worn cells can give 16 too. A row that is upside down is refused by 12
+    /// at block 0.
     ///
     /// # Example
     ///
     /// ```
-    /// let row = slatmonief::encode_str("Ć12").unwrap();
+    /// let mut row = slatmonief::encode_str("Ć12").unwrap();
     /// let mut symbols = [0; slatmonief::MOST_SYMBOLS];
     /// let n = slatmonief::read(&row, &mut symbols).unwrap();
     /// assert_eq!(symbols[..n], [105, 12]);
+    ///
+    /// row[12] ^= 1; // a worn cell, in block 1
+    /// let refusal = slatmonief::read(&row, &mut symbols).unwrap_err();
+    /// assert_eq!((refusal.number(), refusal.second()), (16, 1));
     /// ```
     read, slatmonief_read, Read, row: u8, symbols: u8
 }

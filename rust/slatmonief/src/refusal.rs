@@ -75,7 +75,16 @@ impl fmt::Display for Refusal {
             (10, Job::Read | Job::Pack) => write!(f, "no row has {m} cells"),
             (10, _) => write!(f, "no symbol list has {m} symbols"),
             (11, _) => write!(f, "the cell at place {m} is neither 0 nor 1"),
-            (12, _) => write!(f, "block {m} is none of the 106 patterns"),
+            (12, _) => write!(
+                f,
+                "block {m} is none of the 106 patterns and has an even number of bar cells: print \
+                 again"
+            ),
+            (16, _) => write!(
+                f,
+                "block {m} is none of the 106 patterns and has an odd number of bar cells, as one \
+                 worn cell can leave it: photograph again"
+            ),
             (13, Job::Read) => write!(f, "block {m} has a number that may not stand there"),
             (13, _) => write!(f, "the number at place {m} may not stand there"),
             (14, _) => write!(f, "the check is wrong, {m} would be right"),

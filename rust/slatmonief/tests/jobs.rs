@@ -34,6 +34,23 @@ fn at_every_room<T: Copy + PartialEq + std::fmt::Debug>(
     }
 }
 
+/// The row with the cells at these places flipped.
+fn flipped(row: &[u8], places: &[usize]) -> Vec<u8> {
+    let mut row = row.to_vec();
+    for &place in places {
+        row[place] ^= 1;
+    }
+    row
+}
+
+/// What read refuses a row by; the buffer must be as it was lent.
+fn refused(row: &[u8], room: usize) -> (u32, usize) {
+    let mut list = vec![200; room];
+    let refusal = read(row, &mut list).unwrap_err();
+    assert_eq!(list, vec![200; room]);
+    (refusal.number(), refusal.second())
+}
+
 #[test]
 fn every_job_at_every_room() {
     for text in [
@@ -74,6 +91,7 @@ fn refusals_leave_the_buffer_and_speak() {
         row[place] = cell;
         row
     };
+    let flipped = |places: &[usize]| flipped(&good, places);
     let cases: Vec<(Result<usize, Refusal>, u32, usize, &str)> = vec![
         (
             encode(&[0x41, 0xD800], &mut row),
@@ -130,10 +148,18 @@ fn refusals_leave_the_buffer_and_speak() {
             "refusal 11: the cell at place 9 is neither 0 nor 1",
         ),
         (
-            read(&spoilt(12, 1), &mut list),
+            read(&flipped(&[12, 14]), &mut list),
             12,
             1,
-            "refusal 12: block 1 is none of the 106 patterns",
+            "refusal 12: block 1 is none of the 106 patterns and has an even number of bar cells: \
+             print again",
+        ),
+        (
+            read(&flipped(&[12]), &mut list),
+            16,
+            1,
+            "refusal 16: block 1 is none of the 106 patterns and has an odd number of bar cells, \
+             as one worn cell can leave it: photograph again",
         ),
         (
             read(
@@ -201,6 +227,45 @@ fn refusals_leave_the_buffer_and_speak() {
         let _: &dyn std::error::Error = &refusal;
     }
     assert_eq!((row, list), ([9; 40], [9; 40]));
+}
+
+#[test]
+fn one_worn_cell() {
+    for text in ["À", "ƁAIMĆ1234"] {
+        let row = encode_str(text).unwrap();
+        let stop = row.len() - 13;
+        for place in 0..row.len() {
+            let expected = if place < stop {
+                (16, place / 11)
+            } else {
+                (15, place)
+            };
+            for room in [0, MOST_SYMBOLS] {
+                assert_eq!(refused(&flipped(&row, &[place]), room), expected);
+            }
+        }
+    }
+}
+
+#[test]
+fn two_worn_cells() {
+    // Blocks 0, 1 and 2 are 11010010000 (104), 10100011000 (33) and 11000100010 (41).
+    let row = encode_str("ƁAIMĆ1234").unwrap();
+    assert_eq!(refused(&flipped(&row, &[12, 19]), MOST_SYMBOLS), (12, 1));
+    assert_eq!(refused(&flipped(&row, &[2, 10]), 0), (12, 0));
+    // A worn block and one that is none of the patterns: the left one is answered.
+    assert_eq!(refused(&flipped(&row, &[12, 22, 23]), 255), (16, 1));
+    assert_eq!(refused(&flipped(&row, &[12, 19, 22]), 255), (12, 1));
+    // Two cells can also leave another pattern, 93 for 33: then the check is wrong.
+    assert_eq!(refused(&flipped(&row, &[19, 20]), 255).0, 14);
+}
+
+#[test]
+fn a_row_upside_down() {
+    for text in ["À", "ƁAIMĆ1234", "Ć123456"] {
+        let row: Vec<u8> = encode_str(text).unwrap().into_iter().rev().collect();
+        assert_eq!(refused(&row, MOST_SYMBOLS), (12, 0));
+    }
 }
 
 #[test]

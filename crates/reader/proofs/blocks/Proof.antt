@@ -1,4 +1,4 @@
--- `reader::blocks` meets its contract: one block a turn, lookOf up once.
+-- `reader::blocks` meets its contract: one block a turn, looked up once.
 -- Assumes nothing.
 use Prim.Native.Nat.{_-_}
 use mathlib.Core.Path.{sym, _∙_}
@@ -7,7 +7,7 @@ use borrow.Author.Needs.{needs}
 use borrow.Author.Tests.{not-true, not-false}
 use Rattle.helpers.specs.Numbers.{refusalNumber}
 use Rattle.reader.specs.Parts.{walkOf}
-use Rattle.reader.proofs.Walks.{look-nothing, look-symbol, Walking, walk-begin, walk-unknown, walk-misfit, walk-turn, walk-end}
+use Rattle.reader.proofs.Walks.{found-symbol, found-worn, found-unknown, Walking, walk-begin, walk-worn, walk-unknown, walk-misfit, walk-turn, walk-end}
 use Rattle.reader.proofs.blocks.Statement.{statement}
 use Rattle.reader.proofs.blocks.Tie as tie
 
@@ -30,13 +30,15 @@ slice-aggregate-find : tie.Need-slice-aggregate-find Inv-loop μ-loop
 slice-aggregate-find c = search needs
 
 find-requires : tie.Need-find-requires Inv-loop μ-loop
-find-requires c κs = (omega arith, c .before .before .before .table .ensures)
+find-requires c κs =
+    let at-table = c .before .before .before in
+    (omega arith, at-table .before .before .before .pre .1, at-table .table .ensures)
 
 enum-known-m : tie.Need-enum-known-m Inv-loop μ-loop
 enum-known-m c = search needs
 
-enum-told : tie.Need-enum-told Inv-loop μ-loop
-enum-told c = search needs
+fits-requires : tie.Need-fits-requires Inv-loop μ-loop
+fits-requires c κs = search needs
 
 same-length : tie.Need-same-length Inv-loop μ-loop
 same-length c = search needs
@@ -44,11 +46,16 @@ same-length c = search needs
 returns : tie.Need-returns Inv-loop μ-loop
 unfolding walkOf refusalNumber
 returns c =
-    let at-find = c .before .before in
-    walk-unknown (at-find .before .before .before .loop .inv) (omega arith) (look-nothing (c .enum-told .given .1) (at-find .find .ensures))
+    let at-m = c .before .before .before in
+    let at-find = at-m .before .before in
+    walk-misfit (at-find .before .before .before .loop .inv) _ (found-symbol (at-m .m .given .1) (at-find .find .ensures)) (omega arith)
+    (sym (c .before .fits2 .ensures) ∙ not-true _ (c .if1 .taken))
 
-fits-requires : tie.Need-fits-requires Inv-loop μ-loop
-fits-requires c κs = search needs
+slice-write-list : tie.Need-slice-write-list Inv-loop μ-loop
+slice-write-list c = search needs
+
+enum-told : tie.Need-enum-told Inv-loop μ-loop
+enum-told c = search needs
 
 same-length-2 : tie.Need-same-length-2 Inv-loop μ-loop
 same-length-2 c = search needs
@@ -56,13 +63,20 @@ same-length-2 c = search needs
 returns-2 : tie.Need-returns-2 Inv-loop μ-loop
 unfolding walkOf refusalNumber
 returns-2 c =
-    let at-m = c .before .before .before in
-    let at-find = at-m .before .before in
-    walk-misfit (at-find .before .before .before .loop .inv) _ (look-symbol (at-m .m .given .1) (at-find .find .ensures)) (omega arith)
-    (sym (c .before .fits2 .ensures) ∙ not-true _ (c .if1 .taken))
+    let at-find = c .before .before in
+    walk-worn (at-find .before .before .before .loop .inv) (omega arith) (found-worn (c .enum-told .given .1) (at-find .find .ensures))
 
-slice-write-list : tie.Need-slice-write-list Inv-loop μ-loop
-slice-write-list c = search needs
+enum-told-2 : tie.Need-enum-told-2 Inv-loop μ-loop
+enum-told-2 c = search needs
+
+same-length-3 : tie.Need-same-length-3 Inv-loop μ-loop
+same-length-3 c = search needs
+
+returns-3 : tie.Need-returns-3 Inv-loop μ-loop
+unfolding walkOf refusalNumber
+returns-3 c =
+    let at-find = c .before .before in
+    walk-unknown (at-find .before .before .before .loop .inv) (omega arith) (found-unknown (c .enum-told2 .given .1) (at-find .find .ensures))
 
 add-b : tie.Need-add-b Inv-loop μ-loop
 add-b c = search needs
@@ -74,15 +88,15 @@ loop-again : tie.Need-loop-again Inv-loop μ-loop
 loop-again c =
     let at-m = c .before .before .before in
     let at-find = at-m .before .before in
-    walk-turn (at-find .before .before .before .loop .inv) _ (look-symbol (at-m .m .given .1) (at-find .find .ensures)) (omega arith) (omega arith)
+    walk-turn (at-find .before .before .before .loop .inv) _ (found-symbol (at-m .m .given .1) (at-find .find .ensures)) (omega arith) (omega arith)
     (sym (c .before .fits2 .ensures) ∙ not-false _ (c .if1 .left))
 
-same-length-3 : tie.Need-same-length-3 Inv-loop μ-loop
-same-length-3 c = search needs
+same-length-4 : tie.Need-same-length-4 Inv-loop μ-loop
+same-length-4 c = search needs
 
-returns-3 : tie.Need-returns-3 Inv-loop μ-loop
+returns-4 : tie.Need-returns-4 Inv-loop μ-loop
 unfolding walkOf
-returns-3 c = walk-end (c .before .loop .inv) (omega arith)
+returns-4 c = walk-end (c .before .loop .inv) (omega arith)
 
 pub blocks-spec : {M : Type 1} → statement M
 blocks-spec =
@@ -96,15 +110,18 @@ blocks-spec =
     slice-aggregate-find
     find-requires
     enum-known-m
-    enum-told
+    fits-requires
     same-length
     returns
-    fits-requires
+    slice-write-list
+    enum-told
     same-length-2
     returns-2
-    slice-write-list
+    enum-told-2
+    same-length-3
+    returns-3
     add-b
     loop-less
     loop-again
-    same-length-3
-    returns-3)
+    same-length-4
+    returns-4)

@@ -43,7 +43,7 @@ add-blocks : tie.Need-add-blocks
 add-blocks c = omega (arith, proper (c .before))
 
 blocks-requires : tie.Need-blocks-requires
-blocks-requires c κs = let p = proper (c .before .before) in (omega arith, omega arith)
+blocks-requires c κs = let p = proper (c .before .before) in (omega arith, p .two-colours, omega arith)
 
 enum-told-2 : tie.Need-enum-told-2
 enum-told-2 c = search needs
