@@ -1,22 +1,12 @@
 /* Calls the job JOB of the library TIMES times on a label of SYMBOLS symbols in set B, and ends. tools/before/count
    compiles it for x86-64 without a C library, so that what is counted is the library's. */
-typedef __UINT8_TYPE__ byte;
-typedef __UINT32_TYPE__ point;
-typedef __SIZE_TYPE__ size;
-typedef struct { point number; size second; } answer;
-answer slatmonief_encode(const point *, size, byte *, size);
-answer slatmonief_draw(const byte *, size, byte *, size);
-answer slatmonief_read(const byte *, size, byte *, size);
-answer slatmonief_spell(const byte *, size, point *, size);
-answer slatmonief_scan(const byte *, size, byte *, size);
-answer slatmonief_pack(const byte *, size, byte *, size);
-answer slatmonief_unpack(const byte *, size, byte *, size);
+#include "slatmonief.h"
 
 enum { ENCODE, DRAW, READ, SPELL, SCAN, PACK, UNPACK, CELLS = 11 * SYMBOLS + 24 };
-static point text[SYMBOLS], points[600];
-static byte symbols[SYMBOLS], row[CELLS], record[400], list[255], cells[2829], bytes[600];
+static uint32_t text[SYMBOLS], points[600];
+static uint8_t symbols[SYMBOLS], row[CELLS], record[400], list[255], cells[2829], bytes[600];
 
-void *memcpy(void *to, const void *from, size n) {
+void *memcpy(void *to, const void *from, size_t n) {
     void *begin = to;
     __asm__ volatile("rep movsb" : "+D"(to), "+S"(from), "+c"(n) : : "memory");
     return begin;
@@ -26,7 +16,7 @@ __attribute__((noreturn)) static void leave(int status) {
     for (;;) __asm__ volatile("syscall" : : "a"(231), "D"(status) : "rcx", "r11", "memory");
 }
 
-static answer call(int job, size record_len) {
+static slatmonief_answer call(int job, size_t record_len) {
     switch (job) {
     case ENCODE: return slatmonief_encode(text, SYMBOLS, cells, sizeof cells);
     case DRAW: return slatmonief_draw(symbols, SYMBOLS, cells, sizeof cells);
@@ -39,7 +29,7 @@ static answer call(int job, size record_len) {
 }
 
 __attribute__((used)) void run(void) {
-    point x = 7;
+    uint32_t x = 7;
     symbols[0] = 104;
     text[0] = 0x181;
     for (int i = 1; i < SYMBOLS; i++) {
@@ -48,7 +38,7 @@ __attribute__((used)) void run(void) {
         text[i] = 0x20 + symbols[i];
     }
     slatmonief_draw(symbols, SYMBOLS, row, CELLS);
-    size record_len = slatmonief_pack(row, CELLS, record, sizeof record).second;
+    size_t record_len = slatmonief_pack(row, CELLS, record, sizeof record).second;
     for (int i = 0; i < TIMES; i++)
         if (call(JOB, record_len).number != 0) leave(1);
     leave(0);

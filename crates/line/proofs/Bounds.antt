@@ -4,25 +4,18 @@
 use Prim.Native.Nat.{ℕ, suc, _+_, _*_, _<_, _≤_}
 use mathlib.Core.Path.{_≡_, refl}
 use mathlib.Core.Bool.{Bool, true, false}
-use mathlib.Core.List.{List, [], _∷_, _++_}
+use mathlib.Core.List.{List, [], _∷_}
 use native.Mathlib.Omega.{arith}
 use borrow.Author.Tests.{leb-true}
 use lib.Dec.{leb}
 use lib.ListN.{length}
 use Rattle.helpers.specs.Answers.{if_then_else_, Each, Answer, refuse, accept, Test, refuses, passes, _then_, ask, every, into}
-use Rattle.paper.specs.Iso15417.{stop, cells, check, row, before}
+use Rattle.paper.specs.Iso15417.{cells, row, before}
 use Rattle.paper.specs.Crate.{isScalar, utf8Bytes, State, free, held, Step, halt, hold, write, step, Parsed, stops, symbols, withSymbol, follow, finished, parseFrom, parse}
 use Rattle.paper.specs.Jobs.{most, SymbolList, parsed, encode}
-use Rattle.helpers.proofs.Answering.{each-append}
-use Rattle.paper.proofs.Cells.{row-numbers, length-row}
-use Rattle.paper.proofs.Reading.{cells-clean, stop-clean}
+use Rattle.paper.proofs.Cells.{length-row}
+use Rattle.paper.proofs.Reading.{row-clean}
 use Rattle.paper.proofs.Spelling.{parse-form}
-
--- ---- the cells of a row
-
-row-clean : (s : List ℕ) → SymbolList s → Each (λ c. c ≤ 1) (row s)
-unfolding row
-row-clean s a = each-append (λ c. c ≤ 1) (cells (s ++ (check s ∷ []))) stop (cells-clean (s ++ (check s ∷ [])) (row-numbers s a)) stop-clean
 
 -- ---- the parser's numbers: a place within the text, or no more symbols than it has code points
 

@@ -15,11 +15,11 @@ use Rattle.helpers.specs.Answers.{if_then_else_, Each, refuse, accept, Accepted
 use Rattle.paper.specs.Iso15417.{pattern, stop, barCells, found, worn, check, cells, row}
 use Rattle.paper.specs.Jobs.{most, SymbolList, fitsAt, wrongBlock, numbers, withNumber, block, blocksFrom, looked, lastOf, wanted, read}
 use Rattle.paper.specs.Damage.{flipped, flippedVerdict}
-use Rattle.helpers.proofs.Answering.{each-append, each-at, each-set, into-refuse}
+use Rattle.helpers.proofs.Answering.{each-at, each-set, into-refuse}
 use Rattle.paper.proofs.Table.{length-pattern, pattern-cells, pattern-even, found-pattern, found-odd}
 use Rattle.paper.proofs.Lists.{form-length}
 use Rattle.paper.proofs.Cells.{Number, length-cells, length-stop, length-row, first-block, other-blocks, row-numbers}
-use Rattle.paper.proofs.Reading.{Fits, fits-numbers, row-fits, sound-fits, blocks-cells, cells-clean, stop-clean, judged, read-clean, accepted}
+use Rattle.paper.proofs.Reading.{Fits, fits-numbers, row-fits, sound-fits, blocks-cells, stop-clean, row-clean, judged, read-clean, accepted}
 
 -- ---- a flipped cell in a list of cells
 
@@ -106,10 +106,6 @@ module _ (room : ℕ) (s : List ℕ) (a : SymbolList s) where
   size : length (cells u) ≡ 11 * (length s + 1)
   size = length-cells u (row-numbers s a) ∙ ap (λ (k : ℕ). 11 * k) long
 
-  row-clean : Each (λ c. c ≤ 1) (row s)
-  unfolding row
-  row-clean = each-append (λ c. c ≤ 1) (cells u) stop (cells-clean u (row-numbers s a)) stop-clean
-
   flipped-length : (i : ℕ) → length (flipped i (row s)) ≡ 11 * (length s + 1) + 13
   unfolding flipped
   flipped-length i = length-set (row s) i (1 - getD (row s) i 0) ∙ length-row s a
@@ -117,7 +113,7 @@ module _ (room : ℕ) (s : List ℕ) (a : SymbolList s) where
   -- 10 and 11 are passed
   walks : (i : ℕ) → read room (flipped i (row s)) ≡ into room (looked (blocksFrom (length s + 1) 0 (flipped i (row s))) (judged (length s) (flipped i (row s))))
   unfolding most
-  walks i = read-clean room (flipped i (row s)) (length s) (flipped-length i) (form-length s (a .form)) (a .size) (flipped-clean (row s) i row-clean)
+  walks i = read-clean room (flipped i (row s)) (length s) (flipped-length i) (form-length s (a .form)) (a .size) (flipped-clean (row s) i (row-clean s a))
 
   in-block : (i : ℕ) → i < 11 * (length s + 1) → read room (flipped i (row s)) ≡ refuse 16 (i / 11)
   unfolding row looked

@@ -17,7 +17,7 @@ use Rattle.helpers.proofs.Answering.{then-accept, ask-passes, passed, into-acce
 use Rattle.paper.proofs.Table.{found-pattern, found-is, pattern-cells}
 use Rattle.paper.proofs.Lists.{start-bounds, bounds-start, form-length, symbol-list, list-accepts, cells-tested, cells-pass}
 use Rattle.paper.proofs.Lengths.{possible-row, possible-row-of}
-use Rattle.paper.proofs.Cells.{Number, length-cells, length-stop, length-row, first-block, other-blocks, check-small}
+use Rattle.paper.proofs.Cells.{Number, length-cells, length-stop, length-row, first-block, other-blocks, check-small, row-numbers}
 
 -- ---- numbers that may stand as the blocks from b on
 
@@ -88,6 +88,12 @@ cells-clean (m ∷ ms) a = each-append (λ c. c ≤ 1) (pattern m) (cells ms) (p
 pub stop-clean : Each (λ c. c ≤ 1) stop
 unfolding jobs-computes
 stop-clean = cells-tested stop refl
+
+pub row-clean : (s : List ℕ) → SymbolList s → Each (λ c. c ≤ 1) (row s)
+unfolding row
+row-clean s a =
+    let u = s ++ (check s ∷ []) in
+    each-append (λ c. c ≤ 1) (cells u) stop (cells-clean u (row-numbers s a)) stop-clean
 
 stop-passes : (at : ℕ) → wanted 15 at stop stop ≡ passes
 unfolding iso15417-computes wanted

@@ -90,13 +90,21 @@ fn lists(run: &Run, part: &str) -> Vec<Vec<u8>> {
         .collect()
 }
 
-/// Every pair of the index of a list and a block of its row, the check included.
-fn list_blocks(lists: &[Vec<u8>]) -> Vec<(usize, usize)> {
-    lists
+/// Does the work at every block of the row of every list, the check included.
+fn at_every_block(
+    run: &Run,
+    part: &str,
+    work: impl Fn(&mut Worker, &[u8], usize) -> Result<()> + Sync,
+) -> Result<Tally> {
+    let lists = lists(run, part);
+    let places: Vec<(&[u8], usize)> = lists
         .iter()
-        .enumerate()
-        .flat_map(|(index, list)| (0..=list.len()).map(move |block| (index, block)))
-        .collect()
+        .flat_map(|list| (0..=list.len()).map(move |block| (&list[..], block)))
+        .collect();
+    run.blocks(places.len() as u64, |worker, number| {
+        let (list, block) = places[number as usize];
+        work(worker, list, block)
+    })
 }
 
 /// One symbol replaced at this place by every number. Read refuses, except for a data symbol at
@@ -125,22 +133,14 @@ fn replaced_at(worker: &mut Worker, list: &[u8], block: usize) -> Result<()> {
 
 /// One symbol replaced at every place by every number.
 pub fn replaced(run: &Run) -> Result<Tally> {
-    let lists = lists(run, "read-replaced");
-    let places = list_blocks(&lists);
-    run.blocks(places.len() as u64, |worker, block| {
-        let (index, place) = places[block as usize];
-        replaced_at(worker, &lists[index], place)
-    })
+    at_every_block(run, "read-replaced", replaced_at)
 }
 
 /// One cell changed at every place: flipped, or set to a value that is neither 0 nor 1.
 pub fn cells(run: &Run) -> Result<Tally> {
-    let lists = lists(run, "read-cells");
-    let places = list_blocks(&lists);
-    run.blocks(places.len() as u64, |worker, number| {
-        let (index, block) = places[number as usize];
-        let good = worker.model.row_of_list(&lists[index]);
-        let end = if block == lists[index].len() {
+    at_every_block(run, "read-cells", |worker, list, block| {
+        let good = worker.model.row_of_list(list);
+        let end = if block == list.len() {
             good.len()
         } else {
             11 * block + 11
@@ -183,11 +183,8 @@ fn flipped_at(worker: &mut Worker, row: &[u8], place: usize) -> Result<()> {
 /// Two cells of one block flipped, every two cells of every block. If the block is then no pattern,
 /// read refuses by 12, since the number of bar cells stays even; the model knows the other answers.
 pub fn pairs(run: &Run) -> Result<Tally> {
-    let lists = lists(run, "read-pairs");
-    let places = list_blocks(&lists);
-    run.blocks(places.len() as u64, |worker, number| {
-        let (index, block) = places[number as usize];
-        let good = worker.model.row_of_list(&lists[index]);
+    at_every_block(run, "read-pairs", |worker, list, block| {
+        let good = worker.model.row_of_list(list);
         let cells = 11 * block..11 * block + 11;
         for first in cells.clone() {
             for second in first + 1..cells.end {
@@ -212,18 +209,15 @@ const WAYS: [u32; 3] = [12, 13, 16];
 /// Two wrong blocks, and also a wrong stop: read answers the left block, whatever is wrong to the
 /// right of it. Every block of a row is the left one, beside the next block and beside the check.
 pub fn beside(run: &Run) -> Result<Tally> {
-    let lists = lists(run, "read-beside");
-    let places = list_blocks(&lists);
-    run.blocks(places.len() as u64, |worker, number| {
-        let mut random = Random::new(run.seed, "read-beside", number);
-        let (index, left) = places[number as usize];
-        let n = lists[index].len();
+    at_every_block(run, "read-beside", |worker, list, left| {
+        let n = list.len();
+        let mut random = Random::new(run.seed, "read-beside", (n + left) as u64);
         let mut rights = vec![left + 1, n];
         rights.dedup();
         rights.retain(|&right| left < right && right <= n);
         rights
             .into_iter()
-            .try_for_each(|right| both_wrong(worker, &mut random, &lists[index], left, right))
+            .try_for_each(|right| both_wrong(worker, &mut random, list, left, right))
     })
 }
 
