@@ -10,7 +10,7 @@ use borrow.Author.Tests.{leb-true}
 use lib.Dec.{leb}
 use lib.ListN.{length}
 use Rattle.helpers.specs.Answers.{if_then_else_, Each, Answer, refuse, accept, Test, refuses, passes, _then_, ask, every, into}
-use Rattle.paper.specs.Iso15417.{cells, row, before}
+use Rattle.paper.specs.Iso15417.{row, before}
 use Rattle.paper.specs.Crate.{isScalar, utf8Bytes, State, free, held, Step, halt, hold, write, step, Parsed, stops, symbols, withSymbol, follow, finished, parseFrom, parse}
 use Rattle.paper.specs.Jobs.{most, SymbolList, parsed, encode}
 use Rattle.paper.proofs.Cells.{length-row}
