@@ -46,7 +46,9 @@ typedef struct {
 } slatmonief_answer;
 
 /* Encode: code points to a row. The first code point names the character set: U+00C0 for A, U+0181
- * for B, U+0106 for C. Further on, the same three switch to another set.
+ * for B, U+0106 for C. Further on, the same three switch to another set. U+017D is Shift, 98 in
+ * sets A and B. It does not change the set in which the next code point is encoded: C0 17D 61 (hex)
+ * is refused by 3 at place 2; C0 17D 1 is 103 98 65, which scan sends as 'a'.
  * Accepted: second is n, and 11(n+1)+13 cells are written.
  * Refused, in this order, each test over the whole input before the next:
  *   number, when                                            second
@@ -95,7 +97,8 @@ slatmonief_answer slatmonief_draw(const uint8_t *symbols, size_t symbols_len, ui
  */
 slatmonief_answer slatmonief_read(const uint8_t *row, size_t row_len, uint8_t *symbols, size_t symbols_len);
 
-/* Spell: a symbol list to the one text that encodes to it with no FNC1 (U+0179) inside a pair.
+/* Spell: a symbol list to the one text that encodes to it with no FNC1 (U+0179) inside a pair. So
+ * 103 98 65 is spelled C0 17D 1 (hex), and scanned as 'a'.
  * Accepted: second is the number of code points written.
  * Refused, in this order:
  *   number, when                                            second
@@ -105,7 +108,12 @@ slatmonief_answer slatmonief_read(const uint8_t *row, size_t row_len, uint8_t *s
  */
 slatmonief_answer slatmonief_spell(const uint8_t *symbols, size_t symbols_len, uint32_t *text, size_t text_len);
 
-/* Scan: a symbol list to the 7-bit bytes that a scanner sends.
+/* Scan: a symbol list to the 7-bit bytes that a scanner sends; 0 can be among them. A START, a
+ * switch, Shift and the function symbols send nothing. After Shift (98 in set A or B) the next
+ * symbol alone is read in the other of these two sets, if it is below 96: 103 98 65 sends 'a'.
+ * Otherwise Shift has no effect: a switch after it switches, and a second Shift is a Shift for the
+ * symbol after that. In set C, 98 is a pair of digits. Shift changes which bytes are written and
+ * never how many. Before version 1.2.0 it had no effect at all.
  * Accepted: second is the number of bytes written.
  * Refused, in this order:
  *   number, when                                            second

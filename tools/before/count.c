@@ -1,8 +1,10 @@
-/* Calls the job JOB of the library TIMES times on a label of SYMBOLS symbols in set B, and ends. tools/before/count
-   compiles it for x86-64 without a C library, so that what is counted is the library's. */
+/* Calls the job JOB of the library TIMES times on a label of SYMBOLS symbols in the set SET, and ends.
+   tools/before/count compiles it for x86-64 without a C library, so that what is counted is the library's. */
 #include "slatmonief.h"
 
 enum { ENCODE, DRAW, READ, SPELL, SCAN, PACK, UNPACK, CELLS = 11 * SYMBOLS + 24 };
+enum { A, B, C, mixed, A_shift, B_shift }; /* mixed has switches; with shift every fourth data number is 98 */
+static const uint8_t starts[] = {103, 104, 105, 105, 103, 104}, ends[] = {96, 64, 100, 103, 96, 96};
 static uint32_t text[SYMBOLS], points[600];
 static uint8_t symbols[SYMBOLS], row[CELLS], record[400], list[255], cells[2829], bytes[600];
 
@@ -30,12 +32,12 @@ static slatmonief_answer call(int job, size_t record_len) {
 
 __attribute__((used)) void run(void) {
     uint32_t x = 7;
-    symbols[0] = 104;
+    symbols[0] = starts[SET];
     text[0] = 0x181;
     for (int i = 1; i < SYMBOLS; i++) {
         x = x * 1103515245u + 12345u;
-        symbols[i] = (x >> 16) % 64;
-        text[i] = 0x20 + symbols[i];
+        symbols[i] = SET >= A_shift && i % 4 == 0 ? 98 : (x >> 16) % ends[SET];
+        text[i] = 0x20 + symbols[i]; /* right in set B alone, where encode is counted */
     }
     slatmonief_draw(symbols, SYMBOLS, row, CELLS);
     size_t record_len = slatmonief_pack(row, CELLS, record, sizeof record).second;

@@ -2,10 +2,10 @@
 
     python3 tools/cases/make.py
 
-The calls are the labels of document 01, inputs on both sides of each limit, and the damaged rows of
-request 3 of document 02. The answers come from ../examples/model.py, which is written from these
-documents alone. Where a document gives the answer, it is written here by hand and the model must
-agree.
+The calls are the labels of document 01, inputs on both sides of each limit, and from document 02
+the Shifts of request 1 and the damaged rows of request 3. The answers come from
+../examples/model.py, which is written from these documents alone. Where a document gives the
+answer, it is written here by hand and the model must agree.
 
 A line of stdin has the letter of a job, the length of the lent buffer, and the input, all numbers
 in upper-case hex. The letters are E encode, D draw, R read, S spell, N scan, P pack and U unpack.
@@ -144,6 +144,25 @@ for job in "DSN":
                 [104, 102, 255], [0] + 256 * [255]):
         ask(job, 0, bad)
         ask(job, 40, bad)
+
+# Request 1 of document 02: scan reads the number after a Shift in the other of sets A and B, if it
+# is below 96. The bytes are by hand, in hex; each list into three bytes, and into one too few.
+SHIFTED = [
+    ([103, 98, 65], "61"), ([104, 98, 65], "01"), ([103, 98, 98, 65], "61"),
+    ([103, 98, 99, 12], "3132"), ([105, 98], "3938"), ([104, 98], ""),
+    ([103, 98, 65, 65], "6101"), ([104, 98, 100, 65], "61"),
+    # both ends of what is shifted, and the numbers after it: three Shifts, FNC1, switches, the end
+    ([103, 98, 0, 98, 63, 98, 64], "205f60"), ([104, 98, 63, 98, 64, 98, 95], "5f001f"),
+    ([104, 98, 98, 98, 95, 95], "1f7f"), ([103, 98, 95, 98, 102, 95, 98], "7f1f"),
+    ([103, 98, 100, 98, 64, 64], "0060"), ([104, 98, 101, 98, 64, 64], "6000"),
+    ([104, 98, 99, 98, 101, 64], "393800"), ([105, 98, 100, 98, 64], "393800"),
+]
+for symbols, sent in SHIFTED:
+    size = len(sent) // 2
+    ask("N", 3, symbols, done(size))
+    assert answered[-1] == "0 %d %s" % (size, sent.ljust(6, "7"))
+    if size > 0:
+        ask("N", size - 1, symbols, refuse(5, size))
 
 # ---- read
 for symbols in LISTS + [LONG, PAIRS]:

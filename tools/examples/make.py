@@ -401,7 +401,7 @@ labels_table("c", "everySwitch", "every switch, to another set and to the curren
 
 shifts = [start + c for start in "ÀƁĆ" for c in "ŽżźŻŹ"]
 shifts += ["ÀŽa", "ÀŽ\x01", "ƁŽ\x01", "ƁŽa", "ƁŽA", "ÀŽŽ", "ÀżA", "Ɓż€", "ƁźŻżŹ", "ĆŹŹŹ", "Ć12Ž", "Ć1Ž2", "Ć1ż2", "Ć1ź2", "Ć1Ż2", "ĆƁŽ", "ĆÀż", "ÀĆŽ", "ƁĆż"]
-labels_table("c", "everyFunction", "Shift and the function symbols in every set: Ž shifts nothing, and set C has Ź alone", [P(s) for s in shifts])
+labels_table("c", "everyFunction", "Shift and the function symbols in every set: in encode Ž shifts nothing, and set C has Ź alone", [P(s) for s in shifts])
 
 held = ["Ć12", "Ć1Ź2", "ĆŹ12", "Ć1ŹŹ2", "Ć1ŹŹŹ2", "ĆŹ1Ź2", "ĆŹŹ1Ź2", "Ć12Ź", "ĆŹ1Ź2Ź", "Ć1Ź234", "Ć1Ź23Ź4", "Ć12Ź34", "Ć12Ź3Ź4", "Ć1ŹŹ23ŹŹ4Ź", "Ć0Ź0", "Ć9Ź9", "Ć00", "Ć99",
         "Ć09", "Ć90", "ƁĆ1ŹŹ2", "ƁĆ1Ź2Ɓ", "Ć1Ź2ÀA", "Ć1Ź2Ɓa", "Ć1234567890", "Ć1", "Ć123", "Ć12345", "Ć1Ź", "Ć1ŹŹ", "Ć1Ź23", "Ć12Ź3", "Ć12Ź3Ź", "Ć1ŹÀ", "Ć1ŹƁ2", "Ć1ŹĆ2", "Ć1ŹA", "Ć1A",
@@ -705,8 +705,11 @@ LISTS = [
     ([104, 101, 65], "ƁÀ\x01", "\x01"), ([104, 101, 101, 65], "ƁÀż\x01", "\x01"), ([104, 101, 100, 65], "ƁÀƁa", "a"), ([104, 100, 65], "Ɓża", "a"),
     ([105, 100, 65], "ĆƁa", "a"), ([105, 101, 65], "ĆÀ\x01", "\x01"), ([105, 100, 100, 12], "ĆƁż,", ","), ([105, 101, 101, 12], "ĆÀż,", ","),
     ([105, 100, 101, 99, 65], "ĆƁÀĆ65", "65"), ([105, 101, 100, 99, 65], "ĆÀƁĆ65", "65"), ([103, 99, 100, 101, 95], "ÀĆƁÀ\x1f", "\x1f"), ([103, 99, 100, 95], "ÀĆƁ÷", "\x7f"),
-    # Shift shifts nothing; function symbols send nothing
-    ([103, 98, 65], "ÀŽ\x01", "\x01"), ([104, 98, 65], "ƁŽa", "a"), ([103, 98, 99, 98], "ÀŽĆ98", "98"), ([103, 102, 33, 102], "ÀŹAŹ", "A"), ([104, 96, 65, 97], "ƁŻaź", "a"),
+    # Shift: scan reads the next symbol in the other set, spell and draw do not
+    ([103, 98, 65], "ÀŽ\x01", "a"), ([104, 98, 65], "ƁŽa", "\x01"), ([103, 98, 98, 65], "ÀŽŽ\x01", "a"), ([103, 98, 65, 65], "ÀŽ\x01\x01", "a\x01"),
+    ([103, 98, 99, 12], "ÀŽĆ12", "12"), ([103, 98, 99, 98], "ÀŽĆ98", "98"), ([104, 98, 100, 65], "ƁŽża", "a"),
+    # function symbols send nothing
+    ([103, 102, 33, 102], "ÀŹAŹ", "A"), ([104, 96, 65, 97], "ƁŻaź", "a"),
     ([105, 102, 12], "ĆŹ12", "12"), ([105, 12, 102], "Ć12Ź", "12"), ([105, 102, 102, 12, 102, 34], "ĆŹŹ12Ź34", "1234"), ([105, 12, 102, 34], "Ć12Ź34", "1234"),
     ([104, 102, 95, 99, 102, 95, 101, 95], "ƁŹ÷ĆŹ95À\x1f", "\x7f95\x1f"),
     ([104, 33, 41, 45, 99, 12, 34], "ƁAIMĆ1234", "AIM1234"), ([103, 48, 42, 42, 17, 18, 19, 35], "ÀPJJ123C", "PJJ123C"),
@@ -719,8 +722,9 @@ for (s, x, b), got in zip(LISTS, crate_rows):
     assert model.spell(len(x), s) == accept(P(x)) and model.scan(len(b), s) == accept(P(b)) and model.draw(len(row), s) == accept(row, len(s)), (s, x, b)
     entries.append("(%s) spells %s scans %s draws %s" % (listed(s), text(P(x)), text(P(b)), hexed(row)))
 table("e", "lists", "Listed", """
-Symbol lists, the label that spell writes and the bytes that scan sends, by hand from document 01;
-the row is what the crate writes for that label. Each job gets a buffer just long enough.
+Symbol lists, the label that spell writes and the bytes that scan sends, by hand from document 01
+and request 1 of document 02; the row is what the crate writes for that label. Each job gets a
+buffer just long enough.
 """, entries, each=3)
 states("lists-hold", "map threeJobs lists ≡ map threeAnswers lists")
 
@@ -771,6 +775,68 @@ entries.append(held_to("scan", "105 ∷ replicate 254 0", v, 507, refuse(5, 508)
 assert model.scan(508, v) == accept([48] * 508)
 entries.append("105 ∷ replicate 254 0 into 508 gives accept 508 (replicate 508 48)")
 examples_table("e", "scanShort", "scan", "Refusal 5 of scan, by hand, and empty buffers where nothing is sent.", entries)
+
+# Shift in scan: what a number below 96 sends in set A and in set B, as the standard's table has it
+SENDS = {"A": [*range(0x20, 0x60), *range(0x00, 0x20)], "B": [*range(0x20, 0x80)]}
+entries = []
+for start, own, other in ((103, "A", "B"), (104, "B", "A")):
+    for first in range(0, 96, 16):
+        numbers = range(first, first + 16)
+        s = [start] + [x for m in numbers for x in (98, m, m)]
+        b = [c for m in numbers for c in (SENDS[other][m], SENDS[own][m])]
+        shown = "%d ∷ shiftThenPlain (count %d 16)" % (start, first)
+        entries.append(held_to("scan", shown, s, 32, accept(b), lambda a: plain_answer(a, hexed_bytes)))
+examples_table("e", "shiftEach", "scan", """
+Every number below 96, right after a Shift and then once more without one, in set A and in set B: by
+hand from request 1 of document 02, the bytes from the columns of the standard's table.
+""", entries)
+
+
+def sends(s, b):
+    """A list and its bytes in hexadecimal, into a buffer just long enough."""
+    b = [int(x, 16) for x in b.split()]
+    return s, len(b), accept(b)
+
+
+def scanning(name, comment, cases):
+    entries = [held_to("scan", listed(s), s, room, answer, lambda a: plain_answer(a, hexed_bytes)) for s, room, answer in cases]
+    examples_table("e", name, "scan", comment, entries)
+
+
+scanning("shiftBefore", """
+Shift before each number from 96 to 102, two text numbers after it, in set A and in set B: by hand
+from "Shift has no effect and that symbol keeps its meaning in the current set". A switch switches,
+and a second Shift shifts.
+""", [
+    sends([103, 98, 96, 65, 65], "01 01"), sends([103, 98, 97, 65, 65], "01 01"), sends([103, 98, 98, 65, 65], "61 01"), sends([103, 98, 99, 65, 65], "36 35 36 35"),
+    sends([103, 98, 100, 65, 65], "61 61"), sends([103, 98, 101, 65, 65], "01 01"), sends([103, 98, 102, 65, 65], "01 01"),
+    sends([104, 98, 96, 65, 65], "61 61"), sends([104, 98, 97, 65, 65], "61 61"), sends([104, 98, 98, 65, 65], "01 61"), sends([104, 98, 99, 65, 65], "36 35 36 35"),
+    sends([104, 98, 100, 65, 65], "61 61"), sends([104, 98, 101, 65, 65], "01 01"), sends([104, 98, 102, 65, 65], "61 61"),
+])
+scanning("shifting", """
+More lists with Shift, by hand from request 1 of document 02: at the end, several in a row, beside
+the switches, 98 as a pair in set C, and short buffers. The number of bytes and the refusals do not
+depend on Shift.
+""", [
+    # at the end
+    sends([103, 98], ""), sends([104, 98], ""), sends([103, 65, 98], "01"), sends([104, 65, 98], "61"), sends([103, 98, 98], ""), sends([104, 98, 65, 98], "01"), sends([103, 100, 65, 98], "61"),
+    # one symbol alone, and several in a row
+    sends([103, 65, 98, 65, 98, 65, 65], "01 61 61 01"), sends([104, 65, 98, 65, 98, 65, 65], "61 01 01 61"),
+    sends([103, 98, 98, 98, 65, 65], "61 01"), sends([104, 98, 98, 98, 65, 65], "01 61"), sends([103, 98, 98, 98, 98, 65, 65], "61 01"), sends([104, 98, 98, 98, 98, 65, 65], "01 61"),
+    sends([103, 98, 98, 102, 65], "01"), sends([104, 98, 98, 96, 65], "61"), sends([103, 98, 98, 100, 65], "61"), sends([104, 98, 98, 101, 65], "01"),
+    # a switch between A and B, with a Shift before it or after it
+    sends([103, 100, 98, 65, 65], "01 61"), sends([104, 101, 98, 65, 65], "61 01"), sends([103, 98, 100, 98, 65, 65], "01 61"), sends([104, 98, 101, 98, 65, 65], "61 01"),
+    sends([103, 98, 65, 100, 65], "61 61"), sends([104, 98, 65, 101, 65], "01 01"), sends([103, 98, 101, 98, 65], "61"), sends([104, 98, 100, 98, 65], "01"),
+    # a switch to C and back; 98 in C is a pair and shifts nothing
+    sends([105, 98], "39 38"), sends([105, 98, 98, 65], "39 38 39 38 36 35"), sends([105, 98, 100, 65], "39 38 61"), sends([105, 98, 101, 65], "39 38 01"),
+    sends([103, 98, 99, 98], "39 38"), sends([103, 98, 99, 98, 101, 65], "39 38 01"), sends([104, 98, 99, 98, 100, 65], "39 38 61"), sends([104, 98, 99, 100, 65], "61"), sends([103, 98, 99, 101, 65], "01"),
+    sends([105, 100, 98, 65, 99, 98], "01 39 38"), sends([105, 101, 98, 65, 99, 98], "61 39 38"), sends([103, 98, 99, 98, 100, 98, 65, 65], "39 38 01 61"), sends([104, 98, 99, 65, 101, 98, 65, 65], "36 35 61 01"),
+    # refusal 5, and longer buffers
+    ([103, 98, 65], 0, refuse(5, 1)), ([104, 98, 65], 0, refuse(5, 1)), ([104, 98, 65], 3, accept([1])), ([103, 98, 65, 65], 1, refuse(5, 2)), ([103, 98, 98, 65], 0, refuse(5, 1)),
+    ([103, 98, 99, 12], 1, refuse(5, 2)), ([104, 98, 100, 65], 0, refuse(5, 1)), ([105, 98], 1, refuse(5, 2)), ([103, 98, 99, 98, 100, 98, 65, 65], 3, refuse(5, 4)), ([103, 98], 5, accept([])),
+    # 13
+    ([98], 0, refuse(13, 0)), ([98, 65], 9, refuse(13, 0)), ([103, 98, 103], 0, refuse(13, 2)), ([104, 98, 65, 106], 9, refuse(13, 3)),
+])
 
 # ================================================================ f. the row record
 
@@ -912,6 +978,9 @@ for job, given, before, number, second, after in [
     ("scan", shown_list(105, 12), shown_list(8, 8, 8, 8, 8), 0, 2, shown_list(49, 50, 8, 8, 8)),
     ("scan", shown_list(103), shown_list(8, 9), 0, 0, shown_list(8, 9)),
     ("scan", shown_list(103, 106), shown_list(8, 9), 13, 1, shown_list(8, 9)),
+    ("scan", shown_list(103, 98, 65), shown_list(8, 8, 9), 0, 1, shown_list(97, 8, 9)),
+    ("scan", shown_list(104, 98, 65, 65), shown_list(8, 9), 0, 2, shown_list(1, 97)),
+    ("scan", shown_list(104, 98, 65, 65), shown_list(8), 5, 2, shown_list(8)),
     ("pack", shown_equal(35, 1), shown_list(0, 0, 0, 0, 0, 0, 0, 77), 0, 7, shown_bytes("01 01 FF FF FF FF E0 4D")),
     ("unpack", shown_bytes("01 01 00 00 00 00 00"), shown_equal(36, 5), 0, 35, then(shown_equal(35, 0), shown_list(5))),
     ("unpack", shown_bytes("01 00"), shown_list(6), 22, 0, shown_list(6)),
@@ -1053,6 +1122,11 @@ joined (xs ∷ xss) = xs ++ joined xss
 unfoldable pub times : ℕ → List ℕ → List ℕ
 times zero xs = []
 times (suc n) xs = xs ++ times n xs
+
+-- each number right after a Shift, and then once more without one
+unfoldable pub shiftThenPlain : List ℕ → List ℕ
+shiftThenPlain [] = []
+shiftThenPlain (m ∷ ms) = 98 ∷ m ∷ m ∷ shiftThenPlain ms
 
 -- ---- what is compared: the answers of the definitions with the answers in a table's entries
 

@@ -1,5 +1,5 @@
-"""The seven jobs of document 01 as request 3 of document 02 changes them, written from those texts
-alone: not from the crate, nor from specs/.
+"""The seven jobs of document 01 as requests 1 and 3 of document 02 change them, written from those
+texts alone: not from the crate, nor from specs/.
 
 Only the bar patterns come from elsewhere: from the crate's `CHARS`, as document 01 says. An answer
 is ("refuse", number, second) or ("accept", second, list). `room` is the number of elements of the
@@ -138,18 +138,27 @@ def spell(room, symbols):
     return into(room, len(out), out)
 
 
+def _sent(now, m):
+    """The bytes that a number gives when it is read in a set."""
+    if now == "C":
+        return [ord(d) for d in "%02d" % m] if m < 100 else []
+    if m > 95:
+        return []
+    return [m - 64 if now == "A" and m > 63 else m + 32]
+
+
+SHIFT = (("A", 98), ("B", 98))
+OTHER = {"A": "B", "B": "A"}
+
+
 def scan(room, symbols):
     no = _list(symbols)
     if no:
         return no
-    out = []
+    out, before = [], None
     for now, m in _walk(symbols):
-        if now == "A" and m < 96:
-            out.append(m + 32 if m < 64 else m - 64)
-        elif now == "B" and m < 96:
-            out.append(m + 32)
-        elif now == "C" and m < 100:
-            out += [ord(d) for d in "%02d" % m]
+        out += _sent(OTHER[now] if before in SHIFT and m < 96 else now, m)
+        before = (now, m)
     return into(room, len(out), out)
 
 

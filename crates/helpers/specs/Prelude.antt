@@ -6,7 +6,7 @@ pub use Prim.Native.Nat.{ℕ, zero, suc, _+_, _-_, _*_, _/_, _%_, _<_, _≤_}
 pub use Prim.Native.String.{String}
 pub use mathlib.Core.Path.{_≡_}
 pub use mathlib.Core.Logic.{_↔_, _≢_, _⊎_}
-pub use mathlib.Core.Bool.{Bool, true, false, _&&_, _||_}
+pub use mathlib.Core.Bool.{Bool, true, false, not, _&&_, _||_}
 pub use mathlib.Core.Option.{Option, none, some}
 pub use mathlib.Core.List.{List, [], _∷_, _++_, map}
 pub use lib.Dec.{leb, ltb, eqb}

@@ -11,8 +11,8 @@ use Rattle.paper.proofs.Examples.{examples-computes, elevens, joined, a
 use Rattle.paper.proofs.Examples.{settled, ruled, twice, flips, thrice, called, left, unstarred, unstarredRecords, longest, order, published}
 use Rattle.paper.proofs.Examples.{publishedRows, crateChars, crateStop, crateWidths, crateBars, everyNumber, everySwitch, everyFunction, everyPair}
 use Rattle.paper.proofs.Examples.{foreignDigits, firstPoints, documented, randomly, randomlyWrong, checksOn, sweeps, readBack, readLengths, readBlocks}
-use Rattle.paper.proofs.Examples.{readWorn, readStops, readChecks, readLong, lists, badLists, drawShort, spellShort, scanShort, packings, unpackings}
-use Rattle.paper.proofs.Examples.{settling, buffers, redrawings, flippings}
+use Rattle.paper.proofs.Examples.{readWorn, readStops, readChecks, readLong, lists, badLists, drawShort, spellShort, scanShort, shiftEach, shiftBefore}
+use Rattle.paper.proofs.Examples.{shifting, packings, unpackings, settling, buffers, redrawings, flippings}
 
 pub unstarred-hold : map (asked encode) unstarred ≡ map given unstarred
 unfolding examples-computes
@@ -157,6 +157,18 @@ spellShort-hold = refl
 pub scanShort-hold : map (asked scan) scanShort ≡ map given scanShort
 unfolding examples-computes
 scanShort-hold = refl
+
+pub shiftEach-hold : map (asked scan) shiftEach ≡ map given shiftEach
+unfolding examples-computes
+shiftEach-hold = refl
+
+pub shiftBefore-hold : map (asked scan) shiftBefore ≡ map given shiftBefore
+unfolding examples-computes
+shiftBefore-hold = refl
+
+pub shifting-hold : map (asked scan) shifting ≡ map given shifting
+unfolding examples-computes
+shifting-hold = refl
 
 pub packings-hold : map (asked pack) packings ≡ map given packings
 unfolding examples-computes

@@ -11,12 +11,12 @@ use native.Mathlib.Omega.{arith}
 use native.Mathlib.Nat.{le-trans}
 use lib.Dec.{leb, ltb, eqb, T}
 use lib.ListN.{length, getD, length-append}
-use borrow.Author.Tests.{leb-true, ltb-true}
+use borrow.Author.Tests.{leb-true, ltb-true, ne-eqb}
 use Rattle.helpers.specs.Answers.{if_then_else_, Each, accept, whole}
-use Rattle.paper.specs.Iso15417.{Set, before, A, B, C, ascii, digits, sent, next, scanned, column}
+use Rattle.paper.specs.Iso15417.{Set, before, A, B, C, ascii, digits, sent, isShift, readIn, next, scannedFrom, scanned, column}
 use Rattle.paper.specs.Crate.{÷, Span, span, spans, numberIn, pointIn, letters}
 use Rattle.paper.proofs.Computes.{crate-computes, rules-computes}
-use Rattle.paper.specs.Rules.{spot, differences, writes, sends, switches}
+use Rattle.paper.specs.Rules.{spot, differences, writes, sends, switches, shifts}
 use Rattle.paper.specs.Jobs.{scan}
 use Rattle.helpers.proofs.Answering.{and-true, each-append, accept-output}
 use Rattle.helpers.proofs.Below.{below, at as each-below, and-left, and-right}
@@ -36,6 +36,10 @@ numbers-sent = refl
 pub numbers-switch : differences switches ≡ []
 unfolding rules-computes
 numbers-switch = refl
+
+pub numbers-shift : differences shifts ≡ []
+unfolding rules-computes
+numbers-shift = refl
 
 pub numbers-differ : (letters B 95 ≡ ÷ ∷ []) × (getD (column B) 95 (ascii 0) ≡ ascii 0x7F)
 unfolding rules-computes
@@ -168,6 +172,19 @@ number-between s c m e = point-between s m c (numbers-back s c m .0 e)
 pub number-bound : (s : Set) (c m : ℕ) → numberIn (spans s) c ≡ some m → (c < 0x182) × (m < 106)
 number-bound s c m e = (number-point s c m e, greatest-below s m (number-between s c m e .1))
 
+-- ---- the set after a number
+
+below-99 : {m : ℕ} → m < 99 → (k : ℕ) → 99 ≤ k → eqb m k ≡ false
+below-99 {m} h k l = ne-eqb m k (λ e. omega arith)
+
+-- nothing below 99 switches
+pub next-low : (s : Set) (m : ℕ) → m < 99 → next s m ≡ s
+unfolding next
+next-low before m h = rw (below-99 h 103 (omega arith), below-99 h 104 (omega arith), below-99 h 105 (omega arith))
+next-low A m h = rw (below-99 h 99 (omega arith), below-99 h 100 (omega arith))
+next-low B m h = rw (below-99 h 99 (omega arith), below-99 h 101 (omega arith))
+next-low C m h = rw (below-99 h 100 (omega arith), below-99 h 101 (omega arith))
+
 -- ---- what a scanner sends
 
 -- at most two bytes of seven bits
@@ -199,20 +216,24 @@ sent-bytes C m = bytes-if (ltb m 100) _ _ (λ e. two-digits m (ltb-true m 100 e)
 pub sent-seven-bits : (s : Set) (m : ℕ) → Each (λ c. c < 128) (sent s m)
 sent-seven-bits s m = sent-bytes s m .0
 
-pub scanned-seven-bits : (s : Set) (ms : List ℕ) → Each (λ c. c < 128) (scanned s ms)
-unfolding scanned
-scanned-seven-bits s [] = tt
-scanned-seven-bits s (m ∷ ms) = each-append (λ c. c < 128) (sent s m) (scanned (next s m) ms) (sent-seven-bits s m) (scanned-seven-bits (next s m) ms)
+pub scanned-seven-bits : (shifted : Bool) (s : Set) (ms : List ℕ) → Each (λ c. c < 128) (scannedFrom shifted s ms)
+unfolding scannedFrom
+scanned-seven-bits shifted s [] = tt
+scanned-seven-bits shifted s (m ∷ ms) =
+    let set = readIn shifted s m in
+    each-append (λ c. c < 128) (sent set m) (scannedFrom (isShift s m) (next s m) ms) (sent-seven-bits set m) (scanned-seven-bits (isShift s m) (next s m) ms)
 
-pub scanned-short : (s : Set) (ms : List ℕ) → length (scanned s ms) ≤ 2 * length ms
-unfolding scanned
-scanned-short s [] = omega arith
-scanned-short s (m ∷ ms) = omega (arith, length-append (sent s m) (scanned (next s m) ms), sent-bytes s m .1, scanned-short (next s m) ms)
+scanned-short : (shifted : Bool) (s : Set) (ms : List ℕ) → length (scannedFrom shifted s ms) ≤ 2 * length ms
+unfolding scannedFrom
+scanned-short shifted s [] = omega arith
+scanned-short shifted s (m ∷ ms) =
+    let set = readIn shifted s m in
+    omega (arith, length-append (sent set m) (scannedFrom (isShift s m) (next s m) ms), sent-bytes set m .1, scanned-short (isShift s m) (next s m) ms)
 
-pub scanned-short-before : (m : ℕ) (ms : List ℕ) → length (scanned before (m ∷ ms)) ≤ 2 * length ms
-unfolding scanned sent
-scanned-short-before m ms = scanned-short (next before m) ms
+pub scanned-short-before : (m : ℕ) (ms : List ℕ) → length (scanned (m ∷ ms)) ≤ 2 * length ms
+unfolding scanned scannedFrom readIn isShift sent
+scanned-short-before m ms = scanned-short false (next before m) ms
 
 pub scan-seven-bits : (room : ℕ) (s : List ℕ) (n : ℕ) (b : List ℕ) → scan room s ≡ accept n b → Each (λ c. c < 128) b
-unfolding scan whole
-scan-seven-bits room s n b e = rw (accept-output (symbol-list room s (whole (scanned before s)) e .1)) at (scanned-seven-bits before s)
+unfolding scan scanned whole
+scan-seven-bits room s n b e = rw (accept-output (symbol-list room s (whole (scanned s)) e .1)) at (scanned-seven-bits false before s)

@@ -2,18 +2,18 @@
 -- file of specs/, and of the files that it stands on.
 -- Assumes nothing.
 use Rattle.helpers.proofs.Computes.{answers-computes}
-use Rattle.paper.specs.Iso15417.{points, widths, barOf, spaceOf, drawn, pattern, stop, same, barCells, wornOrUnknown, foundIn, found, weighed, check, cells, row, next, digits, sent, scanned, count, printed, column}
+use Rattle.paper.specs.Iso15417.{points, widths, barOf, spaceOf, drawn, pattern, stop, same, barCells, wornOrUnknown, foundIn, found, weighed, check, cells, row, next, digits, sent, startOf, isShift, other, readIn, scannedFrom, scanned, count, printed, column}
 use Rattle.paper.specs.Crate.{utf8Of, utf8Bytes, isScalar, inBoth, spans, numberIn, pointIn, digit, pairs, listed, step, withSymbol, follow, finished, parseFrom, parse, asList, letters, spellFrom, spelled}
 use Rattle.paper.specs.Settle.{switched, moved, added, leftOver, settleFrom, settle, splits, insideFrom, inside, occurrences, withoutŹ}
 use Rattle.paper.specs.Chars.{chars, entry}
-use Rattle.paper.specs.Rules.{longer, runs, nameOf, written, message, leads, writes, sends, switches, differencesIn, differences}
+use Rattle.paper.specs.Rules.{longer, runs, nameOf, written, message, leads, writes, sends, switches, isSHIFT, shifts, differencesIn, differences}
 use Rattle.paper.specs.Jobs.{most, possible, rowLength, symbolCount, possibleRow, parsed, encode, isStart, isData, wellFormed, ofList, draw, spell, scan, isCell, ofRow, fitsAt, withNumber, block, blocksFrom, looked, lastOf, wanted, read}
 use Rattle.paper.specs.Jobs.{bits, bytes, bytesFor, head, recordOf, pack, eight, unbytes, allZero, recordLength, versionOf, countOf, storedCells, unpack}
-use Rattle.paper.specs.Labels.{symbolsAndCheck, starred, expected, answered}
+use Rattle.paper.specs.Labels.{symbolsAndCheck, starred, expected, answered, shiftLabels, shiftExpected, shiftAnswered}
 use Rattle.paper.specs.Damage.{blocksOf, redrawn, blind, verdict, flipped, flippedVerdict}
 
 unfoldable pub iso15417-computes : Unit {0}
-unfolding widths barOf spaceOf drawn pattern stop same barCells wornOrUnknown foundIn found weighed check cells row next digits sent scanned count printed column points answers-computes
+unfolding widths barOf spaceOf drawn pattern stop same barCells wornOrUnknown foundIn found weighed check cells row next digits sent startOf isShift other readIn scannedFrom scanned count printed column points answers-computes
 iso15417-computes = tt
 
 unfoldable pub crate-computes : Unit {0}
@@ -29,7 +29,7 @@ unfolding chars entry
 chars-computes = tt
 
 unfoldable pub rules-computes : Unit {0}
-unfolding longer runs nameOf written message leads writes sends switches differencesIn differences crate-computes
+unfolding longer runs nameOf written message leads writes sends switches isSHIFT shifts differencesIn differences crate-computes
 rules-computes = tt
 
 unfoldable pub jobs-computes : Unit {0}
@@ -37,7 +37,7 @@ unfolding most possible rowLength symbolCount possibleRow parsed encode isStart 
 jobs-computes = tt
 
 unfoldable pub labels-computes : Unit {0}
-unfolding symbolsAndCheck starred expected answered jobs-computes
+unfolding symbolsAndCheck starred expected answered shiftLabels shiftExpected shiftAnswered jobs-computes
 labels-computes = tt
 
 unfoldable pub damage-computes : Unit {0}

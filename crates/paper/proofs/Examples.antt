@@ -72,6 +72,11 @@ unfoldable pub times : ℕ → List ℕ → List ℕ
 times zero xs = []
 times (suc n) xs = xs ++ times n xs
 
+-- each number right after a Shift, and then once more without one
+unfoldable pub shiftThenPlain : List ℕ → List ℕ
+shiftThenPlain [] = []
+shiftThenPlain (m ∷ ms) = 98 ∷ m ∷ m ∷ shiftThenPlain ms
+
 -- ---- what is compared: the answers of the definitions with the answers in a table's entries
 
 infix 15 _into_gives_
@@ -319,7 +324,7 @@ everySwitch =
     ("ÀĆ1Ć" ⇒ refuse 3 3) ∷ ("Ć1À" ⇒ refuse 3 2) ∷ ("Ć1Ɓ" ⇒ refuse 3 2) ∷ ("Ć1Ć" ⇒ refuse 3 2) ∷ ("Ć123À" ⇒ refuse 3 4) ∷ ("Ć123Ɓ4" ⇒ refuse 3 4) ∷
     ("ÀƁ\u{1f}" ⇒ refuse 3 2) ∷ ("ƁÀa" ⇒ refuse 3 2) ∷ ("ÀĆA" ⇒ refuse 3 2) ∷ ("ĆÀa" ⇒ refuse 3 2) ∷ ("ĆƁ\n" ⇒ refuse 3 2) ∷ []
 
--- Shift and the function symbols in every set: Ž shifts nothing, and set C has Ź alone
+-- Shift and the function symbols in every set: in encode Ž shifts nothing, and set C has Ź alone
 unfoldable pub everyFunction : List Label
 everyFunction =
     ("ÀŽ" ⇒ accepted 2 "D09E8BD163AC") ∷ ("Àż" ⇒ accepted 2 "D09D7BAF63AC") ∷ ("Àź" ⇒ accepted 2 "D09EA3D463AC") ∷ ("ÀŻ" ⇒ accepted 2 "D0978AF163AC") ∷
@@ -613,8 +618,9 @@ readLong =
 
 -- ---- e. spell, scan and draw
 
--- Symbol lists, the label that spell writes and the bytes that scan sends, by hand from document
--- 01; the row is what the crate writes for that label. Each job gets a buffer just long enough.
+-- Symbol lists, the label that spell writes and the bytes that scan sends, by hand from document 01
+-- and request 1 of document 02; the row is what the crate writes for that label. Each job gets a
+-- buffer just long enough.
 unfoldable pub lists : List Listed
 lists =
     ((103 ∷ []) spells "À" scans "" draws "D09B331D6") ∷ ((104 ∷ []) spells "Ɓ" scans "" draws "D219B31D6") ∷ ((105 ∷ []) spells "Ć" scans "" draws "D3999B1D6") ∷
@@ -652,8 +658,12 @@ lists =
     ((105 ∷ 101 ∷ 100 ∷ 99 ∷ 65 ∷ []) spells "ĆÀƁĆ65" scans "65" draws "D39D7AF75DE9616231D6") ∷
     ((103 ∷ 99 ∷ 100 ∷ 101 ∷ 95 ∷ []) spells "ÀĆƁÀ\u{1f}" scans "\u{1f}" draws "D0977AF775EBD1D1B1D6") ∷
     ((103 ∷ 99 ∷ 100 ∷ 95 ∷ []) spells "ÀĆƁ÷" scans "\u{7f}" draws "D0977AF75E8B218EB") ∷
-    ((103 ∷ 98 ∷ 65 ∷ []) spells "ÀŽ\u{1}" scans "\u{1}" draws "D09E8A58674C758") ∷ ((104 ∷ 98 ∷ 65 ∷ []) spells "ƁŽa" scans "a" draws "D21E8A5876EC758") ∷
+    ((103 ∷ 98 ∷ 65 ∷ []) spells "ÀŽ\u{1}" scans "a" draws "D09E8A58674C758") ∷ ((104 ∷ 98 ∷ 65 ∷ []) spells "ƁŽa" scans "\u{1}" draws "D21E8A5876EC758") ∷
+    ((103 ∷ 98 ∷ 98 ∷ 65 ∷ []) spells "ÀŽŽ\u{1}" scans "a" draws "D09E8BD14B0F758EB") ∷
+    ((103 ∷ 98 ∷ 65 ∷ 65 ∷ []) spells "ÀŽ\u{1}\u{1}" scans "a\u{1}" draws "D09E8A584B0C498EB") ∷
+    ((103 ∷ 98 ∷ 99 ∷ 12 ∷ []) spells "ÀŽĆ12" scans "12" draws "D09E8AEF59CEDD8EB") ∷
     ((103 ∷ 98 ∷ 99 ∷ 98 ∷ []) spells "ÀŽĆ98" scans "98" draws "D09E8AEF7A2C258EB") ∷
+    ((104 ∷ 98 ∷ 100 ∷ 65 ∷ []) spells "ƁŽża" scans "a" draws "D21E8AF74B093D8EB") ∷
     ((103 ∷ 102 ∷ 33 ∷ 102 ∷ []) spells "ÀŹAŹ" scans "A" draws "D09EBA8C7AEF158EB") ∷
     ((104 ∷ 96 ∷ 65 ∷ 97 ∷ []) spells "ƁŻaź" scans "a" draws "D2178A587A89318EB") ∷ ((105 ∷ 102 ∷ 12 ∷ []) spells "ĆŹ12" scans "12" draws "D39EBACE72CC758") ∷
     ((105 ∷ 12 ∷ 102 ∷ []) spells "Ć12Ź" scans "12" draws "D39673D759CC758") ∷
@@ -697,6 +707,81 @@ scanShort =
     (105 ∷ 12 ∷ [] into 0 gives refuse 5 2) ∷ (104 ∷ 33 ∷ 41 ∷ 45 ∷ [] into 2 gives refuse 5 3) ∷ (104 ∷ 33 ∷ 102 ∷ [] into 0 gives refuse 5 1) ∷
     (104 ∷ 33 ∷ 102 ∷ [] into 1 gives accept 1 (65 ∷ [])) ∷ (105 ∷ replicate 254 0 into 507 gives refuse 5 508) ∷
     (105 ∷ replicate 254 0 into 508 gives accept 508 (replicate 508 48)) ∷ []
+
+-- Every number below 96, right after a Shift and then once more without one, in set A and in set B:
+-- by hand from request 1 of document 02, the bytes from the columns of the standard's table.
+unfoldable pub shiftEach : List Example
+shiftEach =
+    (103 ∷ shiftThenPlain (count 0 16) into 32
+    gives accept 32 (bytesOf "20 20 21 21 22 22 23 23 24 24 25 25 26 26 27 27 28 28 29 29 2A 2A 2B 2B 2C 2C 2D 2D 2E 2E 2F 2F")) ∷
+    (103 ∷ shiftThenPlain (count 16 16) into 32
+    gives accept 32 (bytesOf "30 30 31 31 32 32 33 33 34 34 35 35 36 36 37 37 38 38 39 39 3A 3A 3B 3B 3C 3C 3D 3D 3E 3E 3F 3F")) ∷
+    (103 ∷ shiftThenPlain (count 32 16) into 32
+    gives accept 32 (bytesOf "40 40 41 41 42 42 43 43 44 44 45 45 46 46 47 47 48 48 49 49 4A 4A 4B 4B 4C 4C 4D 4D 4E 4E 4F 4F")) ∷
+    (103 ∷ shiftThenPlain (count 48 16) into 32
+    gives accept 32 (bytesOf "50 50 51 51 52 52 53 53 54 54 55 55 56 56 57 57 58 58 59 59 5A 5A 5B 5B 5C 5C 5D 5D 5E 5E 5F 5F")) ∷
+    (103 ∷ shiftThenPlain (count 64 16) into 32
+    gives accept 32 (bytesOf "60 00 61 01 62 02 63 03 64 04 65 05 66 06 67 07 68 08 69 09 6A 0A 6B 0B 6C 0C 6D 0D 6E 0E 6F 0F")) ∷
+    (103 ∷ shiftThenPlain (count 80 16) into 32
+    gives accept 32 (bytesOf "70 10 71 11 72 12 73 13 74 14 75 15 76 16 77 17 78 18 79 19 7A 1A 7B 1B 7C 1C 7D 1D 7E 1E 7F 1F")) ∷
+    (104 ∷ shiftThenPlain (count 0 16) into 32
+    gives accept 32 (bytesOf "20 20 21 21 22 22 23 23 24 24 25 25 26 26 27 27 28 28 29 29 2A 2A 2B 2B 2C 2C 2D 2D 2E 2E 2F 2F")) ∷
+    (104 ∷ shiftThenPlain (count 16 16) into 32
+    gives accept 32 (bytesOf "30 30 31 31 32 32 33 33 34 34 35 35 36 36 37 37 38 38 39 39 3A 3A 3B 3B 3C 3C 3D 3D 3E 3E 3F 3F")) ∷
+    (104 ∷ shiftThenPlain (count 32 16) into 32
+    gives accept 32 (bytesOf "40 40 41 41 42 42 43 43 44 44 45 45 46 46 47 47 48 48 49 49 4A 4A 4B 4B 4C 4C 4D 4D 4E 4E 4F 4F")) ∷
+    (104 ∷ shiftThenPlain (count 48 16) into 32
+    gives accept 32 (bytesOf "50 50 51 51 52 52 53 53 54 54 55 55 56 56 57 57 58 58 59 59 5A 5A 5B 5B 5C 5C 5D 5D 5E 5E 5F 5F")) ∷
+    (104 ∷ shiftThenPlain (count 64 16) into 32
+    gives accept 32 (bytesOf "00 60 01 61 02 62 03 63 04 64 05 65 06 66 07 67 08 68 09 69 0A 6A 0B 6B 0C 6C 0D 6D 0E 6E 0F 6F")) ∷
+    (104 ∷ shiftThenPlain (count 80 16) into 32
+    gives accept 32 (bytesOf "10 70 11 71 12 72 13 73 14 74 15 75 16 76 17 77 18 78 19 79 1A 7A 1B 7B 1C 7C 1D 7D 1E 7E 1F 7F")) ∷ []
+
+-- Shift before each number from 96 to 102, two text numbers after it, in set A and in set B: by
+-- hand from "Shift has no effect and that symbol keeps its meaning in the current set". A switch
+-- switches, and a second Shift shifts.
+unfoldable pub shiftBefore : List Example
+shiftBefore =
+    (103 ∷ 98 ∷ 96 ∷ 65 ∷ 65 ∷ [] into 2 gives accept 2 (bytesOf "01 01")) ∷ (103 ∷ 98 ∷ 97 ∷ 65 ∷ 65 ∷ [] into 2 gives accept 2 (bytesOf "01 01")) ∷
+    (103 ∷ 98 ∷ 98 ∷ 65 ∷ 65 ∷ [] into 2 gives accept 2 (bytesOf "61 01")) ∷ (103 ∷ 98 ∷ 99 ∷ 65 ∷ 65 ∷ [] into 4 gives accept 4 (bytesOf "36 35 36 35")) ∷
+    (103 ∷ 98 ∷ 100 ∷ 65 ∷ 65 ∷ [] into 2 gives accept 2 (bytesOf "61 61")) ∷ (103 ∷ 98 ∷ 101 ∷ 65 ∷ 65 ∷ [] into 2 gives accept 2 (bytesOf "01 01")) ∷
+    (103 ∷ 98 ∷ 102 ∷ 65 ∷ 65 ∷ [] into 2 gives accept 2 (bytesOf "01 01")) ∷ (104 ∷ 98 ∷ 96 ∷ 65 ∷ 65 ∷ [] into 2 gives accept 2 (bytesOf "61 61")) ∷
+    (104 ∷ 98 ∷ 97 ∷ 65 ∷ 65 ∷ [] into 2 gives accept 2 (bytesOf "61 61")) ∷ (104 ∷ 98 ∷ 98 ∷ 65 ∷ 65 ∷ [] into 2 gives accept 2 (bytesOf "01 61")) ∷
+    (104 ∷ 98 ∷ 99 ∷ 65 ∷ 65 ∷ [] into 4 gives accept 4 (bytesOf "36 35 36 35")) ∷ (104 ∷ 98 ∷ 100 ∷ 65 ∷ 65 ∷ [] into 2 gives accept 2 (bytesOf "61 61")) ∷
+    (104 ∷ 98 ∷ 101 ∷ 65 ∷ 65 ∷ [] into 2 gives accept 2 (bytesOf "01 01")) ∷ (104 ∷ 98 ∷ 102 ∷ 65 ∷ 65 ∷ [] into 2 gives accept 2 (bytesOf "61 61")) ∷ []
+
+-- More lists with Shift, by hand from request 1 of document 02: at the end, several in a row,
+-- beside the switches, 98 as a pair in set C, and short buffers. The number of bytes and the
+-- refusals do not depend on Shift.
+unfoldable pub shifting : List Example
+shifting =
+    (103 ∷ 98 ∷ [] into 0 gives accept 0 (bytesOf "")) ∷ (104 ∷ 98 ∷ [] into 0 gives accept 0 (bytesOf "")) ∷
+    (103 ∷ 65 ∷ 98 ∷ [] into 1 gives accept 1 (bytesOf "01")) ∷ (104 ∷ 65 ∷ 98 ∷ [] into 1 gives accept 1 (bytesOf "61")) ∷
+    (103 ∷ 98 ∷ 98 ∷ [] into 0 gives accept 0 (bytesOf "")) ∷ (104 ∷ 98 ∷ 65 ∷ 98 ∷ [] into 1 gives accept 1 (bytesOf "01")) ∷
+    (103 ∷ 100 ∷ 65 ∷ 98 ∷ [] into 1 gives accept 1 (bytesOf "61")) ∷ (103 ∷ 65 ∷ 98 ∷ 65 ∷ 98 ∷ 65 ∷ 65 ∷ [] into 4 gives accept 4 (bytesOf "01 61 61 01")) ∷
+    (104 ∷ 65 ∷ 98 ∷ 65 ∷ 98 ∷ 65 ∷ 65 ∷ [] into 4 gives accept 4 (bytesOf "61 01 01 61")) ∷
+    (103 ∷ 98 ∷ 98 ∷ 98 ∷ 65 ∷ 65 ∷ [] into 2 gives accept 2 (bytesOf "61 01")) ∷ (104 ∷ 98 ∷ 98 ∷ 98 ∷ 65 ∷ 65 ∷ [] into 2 gives accept 2 (bytesOf "01 61")) ∷
+    (103 ∷ 98 ∷ 98 ∷ 98 ∷ 98 ∷ 65 ∷ 65 ∷ [] into 2 gives accept 2 (bytesOf "61 01")) ∷
+    (104 ∷ 98 ∷ 98 ∷ 98 ∷ 98 ∷ 65 ∷ 65 ∷ [] into 2 gives accept 2 (bytesOf "01 61")) ∷ (103 ∷ 98 ∷ 98 ∷ 102 ∷ 65 ∷ [] into 1 gives accept 1 (bytesOf "01")) ∷
+    (104 ∷ 98 ∷ 98 ∷ 96 ∷ 65 ∷ [] into 1 gives accept 1 (bytesOf "61")) ∷ (103 ∷ 98 ∷ 98 ∷ 100 ∷ 65 ∷ [] into 1 gives accept 1 (bytesOf "61")) ∷
+    (104 ∷ 98 ∷ 98 ∷ 101 ∷ 65 ∷ [] into 1 gives accept 1 (bytesOf "01")) ∷ (103 ∷ 100 ∷ 98 ∷ 65 ∷ 65 ∷ [] into 2 gives accept 2 (bytesOf "01 61")) ∷
+    (104 ∷ 101 ∷ 98 ∷ 65 ∷ 65 ∷ [] into 2 gives accept 2 (bytesOf "61 01")) ∷ (103 ∷ 98 ∷ 100 ∷ 98 ∷ 65 ∷ 65 ∷ [] into 2 gives accept 2 (bytesOf "01 61")) ∷
+    (104 ∷ 98 ∷ 101 ∷ 98 ∷ 65 ∷ 65 ∷ [] into 2 gives accept 2 (bytesOf "61 01")) ∷ (103 ∷ 98 ∷ 65 ∷ 100 ∷ 65 ∷ [] into 2 gives accept 2 (bytesOf "61 61")) ∷
+    (104 ∷ 98 ∷ 65 ∷ 101 ∷ 65 ∷ [] into 2 gives accept 2 (bytesOf "01 01")) ∷ (103 ∷ 98 ∷ 101 ∷ 98 ∷ 65 ∷ [] into 1 gives accept 1 (bytesOf "61")) ∷
+    (104 ∷ 98 ∷ 100 ∷ 98 ∷ 65 ∷ [] into 1 gives accept 1 (bytesOf "01")) ∷ (105 ∷ 98 ∷ [] into 2 gives accept 2 (bytesOf "39 38")) ∷
+    (105 ∷ 98 ∷ 98 ∷ 65 ∷ [] into 6 gives accept 6 (bytesOf "39 38 39 38 36 35")) ∷ (105 ∷ 98 ∷ 100 ∷ 65 ∷ [] into 3 gives accept 3 (bytesOf "39 38 61")) ∷
+    (105 ∷ 98 ∷ 101 ∷ 65 ∷ [] into 3 gives accept 3 (bytesOf "39 38 01")) ∷ (103 ∷ 98 ∷ 99 ∷ 98 ∷ [] into 2 gives accept 2 (bytesOf "39 38")) ∷
+    (103 ∷ 98 ∷ 99 ∷ 98 ∷ 101 ∷ 65 ∷ [] into 3 gives accept 3 (bytesOf "39 38 01")) ∷
+    (104 ∷ 98 ∷ 99 ∷ 98 ∷ 100 ∷ 65 ∷ [] into 3 gives accept 3 (bytesOf "39 38 61")) ∷ (104 ∷ 98 ∷ 99 ∷ 100 ∷ 65 ∷ [] into 1 gives accept 1 (bytesOf "61")) ∷
+    (103 ∷ 98 ∷ 99 ∷ 101 ∷ 65 ∷ [] into 1 gives accept 1 (bytesOf "01")) ∷ (105 ∷ 100 ∷ 98 ∷ 65 ∷ 99 ∷ 98 ∷ [] into 3 gives accept 3 (bytesOf "01 39 38")) ∷
+    (105 ∷ 101 ∷ 98 ∷ 65 ∷ 99 ∷ 98 ∷ [] into 3 gives accept 3 (bytesOf "61 39 38")) ∷
+    (103 ∷ 98 ∷ 99 ∷ 98 ∷ 100 ∷ 98 ∷ 65 ∷ 65 ∷ [] into 4 gives accept 4 (bytesOf "39 38 01 61")) ∷
+    (104 ∷ 98 ∷ 99 ∷ 65 ∷ 101 ∷ 98 ∷ 65 ∷ 65 ∷ [] into 4 gives accept 4 (bytesOf "36 35 61 01")) ∷ (103 ∷ 98 ∷ 65 ∷ [] into 0 gives refuse 5 1) ∷
+    (104 ∷ 98 ∷ 65 ∷ [] into 0 gives refuse 5 1) ∷ (104 ∷ 98 ∷ 65 ∷ [] into 3 gives accept 1 (bytesOf "01")) ∷ (103 ∷ 98 ∷ 65 ∷ 65 ∷ [] into 1 gives refuse 5 2) ∷
+    (103 ∷ 98 ∷ 98 ∷ 65 ∷ [] into 0 gives refuse 5 1) ∷ (103 ∷ 98 ∷ 99 ∷ 12 ∷ [] into 1 gives refuse 5 2) ∷ (104 ∷ 98 ∷ 100 ∷ 65 ∷ [] into 0 gives refuse 5 1) ∷
+    (105 ∷ 98 ∷ [] into 1 gives refuse 5 2) ∷ (103 ∷ 98 ∷ 99 ∷ 98 ∷ 100 ∷ 98 ∷ 65 ∷ 65 ∷ [] into 3 gives refuse 5 4) ∷
+    (103 ∷ 98 ∷ [] into 5 gives accept 0 (bytesOf "")) ∷ (98 ∷ [] into 0 gives refuse 13 0) ∷ (98 ∷ 65 ∷ [] into 9 gives refuse 13 0) ∷
+    (103 ∷ 98 ∷ 103 ∷ [] into 0 gives refuse 13 2) ∷ (104 ∷ 98 ∷ 65 ∷ 106 ∷ [] into 9 gives refuse 13 3) ∷ []
 
 -- ---- f. the row record
 
@@ -787,7 +872,8 @@ buffers =
     (calls read (cellsOf "11010000100110110011011100011101011") ([]) 16 1 ([])) ∷
     (calls spell (105 ∷ 12 ∷ []) (8 ∷ 8 ∷ 8 ∷ 8 ∷ 8 ∷ []) 0 3 (Ć ∷ 49 ∷ 50 ∷ 8 ∷ 8 ∷ [])) ∷
     (calls scan (105 ∷ 12 ∷ []) (8 ∷ 8 ∷ 8 ∷ 8 ∷ 8 ∷ []) 0 2 (49 ∷ 50 ∷ 8 ∷ 8 ∷ 8 ∷ [])) ∷ (calls scan (103 ∷ []) (8 ∷ 9 ∷ []) 0 0 (8 ∷ 9 ∷ [])) ∷
-    (calls scan (103 ∷ 106 ∷ []) (8 ∷ 9 ∷ []) 13 1 (8 ∷ 9 ∷ [])) ∷
+    (calls scan (103 ∷ 106 ∷ []) (8 ∷ 9 ∷ []) 13 1 (8 ∷ 9 ∷ [])) ∷ (calls scan (103 ∷ 98 ∷ 65 ∷ []) (8 ∷ 8 ∷ 9 ∷ []) 0 1 (97 ∷ 8 ∷ 9 ∷ [])) ∷
+    (calls scan (104 ∷ 98 ∷ 65 ∷ 65 ∷ []) (8 ∷ 9 ∷ []) 0 2 (1 ∷ 97 ∷ [])) ∷ (calls scan (104 ∷ 98 ∷ 65 ∷ 65 ∷ []) (8 ∷ []) 5 2 (8 ∷ [])) ∷
     (calls pack (replicate 35 1) (0 ∷ 0 ∷ 0 ∷ 0 ∷ 0 ∷ 0 ∷ 0 ∷ 77 ∷ []) 0 7 (bytesOf "01 01 FF FF FF FF E0 4D")) ∷
     (calls unpack (bytesOf "01 01 00 00 00 00 00") (replicate 36 5) 0 35 (replicate 35 0 ++ (5 ∷ []))) ∷ (calls unpack (bytesOf "01 00") (6 ∷ []) 22 0 (6 ∷ [])) ∷ []
 
@@ -837,5 +923,5 @@ flippings =
 
 -- a proof by computation names this on its `unfolding` line: it opens every definition above
 unfoldable pub examples-computes : Unit {0}
-unfolding digit16 digits16 cellsOf fours rowOf accepted pairs16 bytesOf elevens joined times asked given parsedAs printedAs tried passesAt those passing kept threeJobs threeAnswers settles settled ruled twice flips thrice gave called left unstarred unstarredRecords longest order published publishedRows crateChars crateStop crateWidths crateBars everyNumber everySwitch everyFunction everyPair foreignDigits firstPoints documented randomly randomlyWrong checksOn sweeps readBack readLengths readBlocks readWorn readStops readChecks readLong lists badLists drawShort spellShort scanShort packings unpackings settling buffers redrawings flippings settle-computes chars-computes rules-computes damage-computes
+unfolding digit16 digits16 cellsOf fours rowOf accepted pairs16 bytesOf elevens joined times shiftThenPlain asked given parsedAs printedAs tried passesAt those passing kept threeJobs threeAnswers settles settled ruled twice flips thrice gave called left unstarred unstarredRecords longest order published publishedRows crateChars crateStop crateWidths crateBars everyNumber everySwitch everyFunction everyPair foreignDigits firstPoints documented randomly randomlyWrong checksOn sweeps readBack readLengths readBlocks readWorn readStops readChecks readLong lists badLists drawShort spellShort scanShort shiftEach shiftBefore shifting packings unpackings settling buffers redrawings flippings settle-computes chars-computes rules-computes damage-computes
 examples-computes = tt

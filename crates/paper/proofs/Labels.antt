@@ -1,11 +1,11 @@
--- The letters and the starred labels, by computation.
+-- The letters, the starred labels and the labels of request 1, by computation.
 -- Assumes nothing.
 use mathlib.Core.Path.{_≡_, refl}
 use mathlib.Core.List.{[], _∷_}
 use Rattle.paper.specs.Iso15417.{points}
 use Rattle.paper.specs.Crate.{À, Ɓ, Ć, Ź, ź, Ż, ż, Ž, ÷}
 use Rattle.paper.proofs.Computes.{labels-computes}
-use Rattle.paper.specs.Labels.{answered, expected, starred}
+use Rattle.paper.specs.Labels.{answered, expected, starred, shiftAnswered, shiftExpected, shiftLabels}
 
 pub points-named : points "ÀƁĆŹźŻżŽ÷" ≡ À ∷ Ɓ ∷ Ć ∷ Ź ∷ ź ∷ Ż ∷ ż ∷ Ž ∷ ÷ ∷ []
 unfolding points
@@ -14,3 +14,7 @@ points-named = refl
 pub labels : answered starred ≡ expected starred
 unfolding labels-computes
 labels = refl
+
+pub shift-labels : shiftAnswered shiftLabels ≡ shiftExpected shiftLabels
+unfolding labels-computes
+shift-labels = refl

@@ -6,6 +6,7 @@ pub mod Lengths
 pub mod Lists
 pub mod Table
 pub mod Codes
+pub mod Shifting
 pub mod Cells
 pub mod Settling
 pub mod Moves

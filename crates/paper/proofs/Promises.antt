@@ -2,9 +2,10 @@
 -- shows.
 -- Assumes nothing.
 use Rattle.paper.specs.Promises.{Promises}
-use Rattle.paper.proofs.Labels.{points-named, labels}
+use Rattle.paper.proofs.Labels.{points-named, labels, shift-labels}
 use Rattle.paper.proofs.Table.{table-length, table-widths, table-rule, table-apart, table-found, table-pattern, look-is, look-worn, look-unknown}
-use Rattle.paper.proofs.Codes.{numbers-written, numbers-sent, numbers-switch, numbers-differ, numbers-all, numbers-back, scan-seven-bits}
+use Rattle.paper.proofs.Codes.{numbers-written, numbers-sent, numbers-switch, numbers-shift, numbers-differ, numbers-all, numbers-back, scan-seven-bits}
+use Rattle.paper.proofs.Shifting.{shift-reads, shift-none, shift-pair, scan-as-before, scan-same-length, scan-same-refusal}
 use Rattle.paper.proofs.Results.{encode-owes, draw-owes, read-owes, spell-owes, scan-owes, pack-owes, unpack-owes}
 use Rattle.paper.proofs.Encoding.{encode-size, encode-exactly, same-row, spell-encodes, spell-only}
 use Rattle.paper.proofs.Settling.{settle-quiet, settle-keeps, settle-order, settle-once, settle-still}
@@ -31,6 +32,7 @@ promises = record {
   numbers-switch = numbers-switch;
   numbers-differ = numbers-differ;
   numbers-all = numbers-all;
+  numbers-shift = numbers-shift;
   numbers-back = numbers-back;
   points-named = points-named;
   labels = labels;
@@ -64,6 +66,13 @@ promises = record {
   spell-encodes = spell-encodes;
   spell-only = spell-only;
   scan-seven-bits = scan-seven-bits;
+  shift-reads = shift-reads;
+  shift-none = shift-none;
+  shift-pair = shift-pair;
+  scan-as-before = scan-as-before;
+  scan-same-length = scan-same-length;
+  scan-same-refusal = scan-same-refusal;
+  shift-labels = shift-labels;
   unpack-of-pack = unpack-of-pack;
   pack-of-unpack = pack-of-unpack;
 }

@@ -13,7 +13,7 @@ use Rattle.helpers.specs.Answers.{if_then_else_, Answer, accept, refuses, every
 use Rattle.helpers.specs.Owes.{OneOf, Owes}
 use Rattle.helpers.proofs.Answering.{into-accept, whole-accept}
 use Rattle.helpers.proofs.Owed.{TestBy, By, by-if, by-then, by-ask, by-every, by-into, owes}
-use Rattle.paper.specs.Iso15417.{Look, is, worn, unknown, found, stop, before, scanned}
+use Rattle.paper.specs.Iso15417.{Look, is, worn, unknown, found, stop, scanned}
 use Rattle.paper.specs.Crate.{Parsed, stops, symbols, parse}
 use Rattle.paper.specs.Jobs.{most, SymbolList, encode, draw, read, spell, scan, pack, unpack, parsed, isStart, isData, wellFormed, ofList, ofRow, fitsAt, Blocks, wrongBlock, numbers, withNumber, block, blocksFrom, looked, wanted}
 use Rattle.paper.proofs.Lists.{symbol-list}
@@ -120,7 +120,7 @@ unpack-by room x =
 
 -- ---- largest outputs
 
-scanned-most : (s : List ℕ) → SymbolList s → length (scanned before s) ≤ 508
+scanned-most : (s : List ℕ) → SymbolList s → length (scanned s) ≤ 508
 unfolding most
 scanned-most [] a = absurd (a .form)
 scanned-most (m ∷ ms) a = let size = a .size in omega (arith, scanned-short-before m ms)
@@ -128,8 +128,8 @@ scanned-most (m ∷ ms) a = let size = a .size in omega (arith, scanned-short-be
 scan-short : (room : ℕ) (s : List ℕ) (n : ℕ) (b : List ℕ) → scan room s ≡ accept n b → length b ≤ 508
 unfolding scan
 scan-short room s n b e =
-    let parts = symbol-list room s (whole (scanned before s)) e in
-    rw (whole-accept (scanned before s) (parts .1) .0) at (scanned-most s (parts .0))
+    let parts = symbol-list room s (whole (scanned s)) e in
+    rw (whole-accept (scanned s) (parts .1) .0) at (scanned-most s (parts .0))
 
 -- ---- the seven
 

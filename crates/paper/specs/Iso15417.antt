@@ -1,7 +1,7 @@
 -- What document 01 takes from ISO/IEC 15417: bar patterns, check, the meaning of each number in
 -- each code set, the scanner reading; and what a block of cells is looked up as.
 -- Document 01, "What is built", "Patterns and check", "Tokens and character sets", "Spelling and
--- scanner reading"; document 02, request 3. Assumes nothing.
+-- scanner reading"; document 02, requests 1 and 3. Assumes nothing.
 use Rattle.helpers.specs.Prelude.{ℕ, zero, suc, _+_, _-_, _*_, _/_, _%_, String, Bool, true, false, _&&_, List, [], _∷_, _++_, map, ltb, eqb, getD, replicate}
 use Rattle.helpers.specs.Answers.{if_then_else_}
 use Prim.Native.Char.{code}
@@ -113,6 +113,13 @@ next A m = if eqb m 99 then C else if eqb m 100 then B else A
 next B m = if eqb m 99 then C else if eqb m 101 then A else B
 next C m = if eqb m 100 then B else if eqb m 101 then A else C
 
+-- the START of a set; before the START there is none
+unfoldable pub startOf : Set → ℕ
+startOf before = 0
+startOf A = 103
+startOf B = 104
+startOf C = 105
+
 -- "two ASCII digits": those of a number below 100
 unfoldable pub digits : ℕ → List ℕ
 digits m = (48 + m / 10) ∷ (48 + m % 10) ∷ []
@@ -124,10 +131,35 @@ sent A m = if ltb m 64 then (m + 32) ∷ [] else if ltb m 96 then (m - 64) ∷ [
 sent B m = if ltb m 96 then (m + 32) ∷ [] else []
 sent C m = if ltb m 100 then digits m else []
 
--- "Switches move the set": the bytes of the numbers, one after the other
-unfoldable pub scanned : Set → List ℕ → List ℕ
-scanned s [] = []
-scanned s (m ∷ ms) = sent s m ++ scanned (next s m) ms
+-- "Shift (98 in A or B)": is the number m of a set a Shift?
+unfoldable pub isShift : Set → ℕ → Bool
+isShift before m = false
+isShift A m = eqb m 98
+isShift B m = eqb m 98
+isShift C m = false
+
+-- "the other of those two sets", A and B; Shift is in no other set
+unfoldable pub other : Set → Set
+other before = before
+other A = B
+other B = A
+other C = C
+
+-- the set that the number m is read in, where it stands in the set s, right after a Shift or not:
+-- "If the next symbol is 96 to 102 … that symbol keeps its meaning in the current set."
+unfoldable pub readIn : Bool → Set → ℕ → Set
+readIn shifted s m = if shifted && ltb m 96 then other s else s
+
+-- "Switches move the set", and Shift "makes the next symbol alone be read in the other": the bytes
+-- of the numbers, one after the other, the first of them standing in the set s, right after a Shift
+-- or not
+unfoldable pub scannedFrom : Bool → Set → List ℕ → List ℕ
+scannedFrom shifted s [] = []
+scannedFrom shifted s (m ∷ ms) = sent (readIn shifted s m) m ++ scannedFrom (isShift s m) (next s m) ms
+
+-- the bytes of a symbol list
+unfoldable pub scanned : List ℕ → List ℕ
+scanned ms = scannedFrom false before ms
 
 -- ---- the standard's own table: what each number means in each set
 -- what a number means: an ASCII character, a pair of digits, FNC1 to FNC4, Shift, a switch, a START

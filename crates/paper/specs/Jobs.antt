@@ -4,7 +4,7 @@
 -- request 3. Assumes nothing.
 use Rattle.helpers.specs.Prelude.{ℕ, zero, suc, _+_, _-_, _*_, _/_, _%_, _≤_, Bool, true, _&&_, List, [], _∷_, _++_, leb, eqb, length, getD, take, drop}
 use Rattle.helpers.specs.Answers.{if_then_else_, Each, Answer, refuse, accept, Test, refuses, passes, _then_, ask, every, whole, into}
-use Rattle.paper.specs.Iso15417.{row, check, stop, Look, is, worn, unknown, found, before, scanned}
+use Rattle.paper.specs.Iso15417.{row, check, stop, Look, is, worn, unknown, found, scanned}
 use Rattle.paper.specs.Crate.{isScalar, utf8Bytes, Parsed, stops, symbols, parse, spelled}
 
 -- ---- the limit
@@ -91,7 +91,7 @@ spell room s = ofList room s (whole (spelled s))
 
 -- "Scan: symbol list to the bytes a scanner sends."
 unfoldable pub scan : ℕ → List ℕ → Answer
-scan room s = ofList room s (whole (scanned before s))
+scan room s = ofList room s (whole (scanned s))
 
 -- ---- read
 -- what some blocks are: wrong, by a refusal at a block, or the patterns of these numbers

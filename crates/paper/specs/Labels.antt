@@ -1,9 +1,10 @@
--- The starred labels of document 01, twelve cases, as one table under one statement of Promises.
--- Document 01, "Labels on each side of the line". Assumes nothing.
-use Rattle.helpers.specs.Prelude.{ℕ, String, List, [], _∷_, _++_, length}
-use Rattle.helpers.specs.Answers.{Answer, refuse, accept}
+-- The starred labels of document 01, twelve cases, as one table under one statement of Promises. A
+-- second table: symbol lists with Shift, and the bytes that scan answers.
+-- Document 01, "Labels on each side of the line"; document 02, request 1. Assumes nothing.
+use Rattle.helpers.specs.Prelude.{ℕ, _*_, String, List, [], _∷_, _++_, length}
+use Rattle.helpers.specs.Answers.{Answer, refuse, accept, whole}
 use Rattle.paper.specs.Iso15417.{points, cells, stop}
-use Rattle.paper.specs.Jobs.{encode, rowLength, most}
+use Rattle.paper.specs.Jobs.{encode, scan, rowLength, most}
 
 -- a label, or two with one answer
 pub data Label : Type 0 where
@@ -43,3 +44,31 @@ unfoldable pub answered : List Label → List Answer
 answered [] = []
 answered ((x ⇒ a) ∷ ls) = encode (rowLength most) (points x) ∷ answered ls
 answered ((x also y ⇒ a) ∷ ls) = encode (rowLength most) (points x) ∷ encode (rowLength most) (points y) ∷ answered ls
+
+-- ---- request 1
+-- a symbol list and the bytes that a scanner sends for it
+pub data ShiftLabel : Type 0 where
+  _gives_ : List ℕ → List ℕ → ShiftLabel
+
+infix 15 _gives_
+-- eight lists, by hand from request 1
+unfoldable pub shiftLabels : List ShiftLabel
+shiftLabels =
+    ((103 ∷ 98 ∷ 65 ∷ []) gives (0x61 ∷ [])) ∷
+    ((104 ∷ 98 ∷ 65 ∷ []) gives (0x01 ∷ [])) ∷
+    ((103 ∷ 98 ∷ 98 ∷ 65 ∷ []) gives (0x61 ∷ [])) ∷
+    ((103 ∷ 98 ∷ 99 ∷ 12 ∷ []) gives (0x31 ∷ 0x32 ∷ [])) ∷
+    ((105 ∷ 98 ∷ []) gives (0x39 ∷ 0x38 ∷ [])) ∷
+    ((104 ∷ 98 ∷ []) gives []) ∷
+    ((103 ∷ 98 ∷ 65 ∷ 65 ∷ []) gives (0x61 ∷ 0x01 ∷ [])) ∷
+    ((104 ∷ 98 ∷ 100 ∷ 65 ∷ []) gives (0x61 ∷ [])) ∷ []
+
+-- the table's right sides, as answers
+unfoldable pub shiftExpected : List ShiftLabel → List Answer
+shiftExpected [] = []
+shiftExpected ((s gives b) ∷ ls) = whole b ∷ shiftExpected ls
+
+-- what scan answers to its left sides, at a buffer that takes any bytes of a list
+unfoldable pub shiftAnswered : List ShiftLabel → List Answer
+shiftAnswered [] = []
+shiftAnswered ((s gives b) ∷ ls) = scan (2 * most) s ∷ shiftAnswered ls

@@ -1,19 +1,20 @@
 -- All that is promised of Code 128, in one record; `promises` of proofs/Promises.antt is its proof.
 -- Assumes nothing.
-use Rattle.helpers.specs.Prelude.{ℕ, _+_, _*_, _/_, _%_, _<_, _≤_, _≡_, _↔_, _≢_, _⊎_, false, some, List, [], _∷_, length, getD, take, drop}
+use Rattle.helpers.specs.Prelude.{ℕ, _+_, _*_, _/_, _%_, _<_, _≤_, _≡_, _↔_, _≢_, _⊎_, false, some, List, [], _∷_, _++_, length, getD, take, drop}
 use Rattle.helpers.specs.Answers.{Each, refuse, accept, Accepted, into}
 use Rattle.helpers.specs.Owes.{Owes}
-use Rattle.paper.specs.Iso15417.{points, Set, A, B, C, is, worn, unknown, barCells, ascii, cells, count, row, pattern, found, column}
+use Rattle.paper.specs.Iso15417.{points, Set, before, A, B, C, is, worn, unknown, barCells, ascii, SHIFT, cells, count, row, pattern, found, column, startOf, digits, other, scanned}
 use Rattle.paper.specs.Crate.{À, Ɓ, Ć, Ź, ź, Ż, ż, Ž, ÷, symbols, parse, letters, spans, numberIn, pointIn}
 use Rattle.paper.specs.Settle.{settle, inside, occurrences, withoutŹ}
 use Rattle.paper.specs.Chars.{chars, entry}
-use Rattle.paper.specs.Rules.{PatternRule, NoPattern, spot, differences, writes, sends, switches}
+use Rattle.paper.specs.Rules.{PatternRule, NoPattern, spot, differences, message, writes, sends, switches, shifts}
 use Rattle.paper.specs.Damage.{blocksOf, redrawn, verdict, flipped, flippedVerdict}
 use Rattle.paper.specs.Jobs.{SymbolList, most, encode, draw, read, spell, scan, pack, unpack}
-use Rattle.paper.specs.Labels.{answered, expected, starred}
+use Rattle.paper.specs.Shift.{unshifted, scanUnshifted, setAfter, InAOrB, hasShift, NoTextFirst}
+use Rattle.paper.specs.Labels.{answered, expected, starred, shiftAnswered, shiftExpected, shiftLabels}
 
--- demands 1, 2 and 3, what document 01 says of spelling, scanning and records, and request 3 of
--- document 02
+-- demands 1, 2 and 3, what document 01 says of spelling, scanning and records, and requests 1 and 3
+-- of document 02
 pub record Promises : Type 0 where
   -- ---- the tables
   -- The flat table has 106 entries of eleven cells: the standard's widths, drawn in turn.
@@ -38,6 +39,8 @@ pub record Promises : Type 0 where
   pub numbers-switch : differences switches ≡ []
   pub numbers-differ : (letters B 95 ≡ ÷ ∷ []) × (getD (column B) 95 (ascii 0) ≡ ascii 0x7F)
   pub numbers-all : (length (column A) ≡ 103) × (length (column B) ≡ 103) × (length (column C) ≡ 103)
+  -- Request 1: Shift is where the standard's table has it.
+  pub numbers-shift : differences shifts ≡ []
   -- A code point has a number in a set exactly if the number is written by it there.
   pub numbers-back : (s : Set) (c m : ℕ) → (numberIn (spans s) c ≡ some m) ↔ (pointIn (spans s) m ≡ some c)
   -- The named code points are the letters that name them.
@@ -109,6 +112,23 @@ pub record Promises : Type 0 where
       → encode room′ y ≡ accept k (row s) → inside y ≡ false → y ≡ x
   -- Scan's bytes are below 128.
   pub scan-seven-bits : (room : ℕ) (s : List ℕ) (n : ℕ) (b : List ℕ) → scan room s ≡ accept n b → Each (λ c. c < 128) b
+  -- Request 1: wherever a Shift stands in set A or B, a number below 96 right after it gives what
+  -- the standard's column of the other set says, and those after it give what they give right after
+  -- the START of the set that the Shift stands in;
+  pub shift-reads : (xs : List ℕ) (m : ℕ) (ms : List ℕ) → InAOrB xs → m < 96
+      → scanned (xs ++ (98 ∷ m ∷ ms))
+      ≡ scanned xs ++ (message (getD (column (other (setAfter before xs))) m SHIFT) ++ scanned (startOf (setAfter before xs) ∷ ms))
+  -- before any other number, or at the end, it may as well not be there;
+  pub shift-none : (xs ms : List ℕ) → InAOrB xs → NoTextFirst ms → scanned (xs ++ (98 ∷ ms)) ≡ scanned (xs ++ ms)
+  -- in set C 98 is the pair 98, and those after it give what they give right after START C;
+  pub shift-pair : (xs ms : List ℕ) → setAfter before xs ≡ C → scanned (xs ++ (98 ∷ ms)) ≡ scanned xs ++ (digits 98 ++ scanned (startOf C ∷ ms))
+  -- a list without Shift is answered as before the request, at every length of the buffer;
+  pub scan-as-before : (room : ℕ) (s : List ℕ) → hasShift before s ≡ false → scan room s ≡ scanUnshifted room s
+  -- and with Shift, the number of bytes and every refusal are those of before the request.
+  pub scan-same-length : (s : List ℕ) → length (scanned s) ≡ length (unshifted before s)
+  pub scan-same-refusal : (room : ℕ) (s : List ℕ) (k m : ℕ) → (scan room s ≡ refuse k m) ↔ (scanUnshifted room s ≡ refuse k m)
+  -- Eight lists, by hand from request 1: what scan answers to each.
+  pub shift-labels : shiftAnswered shiftLabels ≡ shiftExpected shiftLabels
   -- Pack and unpack undo each other.
   pub unpack-of-pack : (room : ℕ) (cs : List ℕ) (n : ℕ) (rec : List ℕ) → pack room cs ≡ accept n rec
       → (room′ : ℕ) → length cs ≤ room′ → unpack room′ rec ≡ accept (length cs) cs

@@ -1,9 +1,9 @@
 -- The rule of the table of patterns, and the crate's numbers held against the standard's table.
 -- Document 01, "Patterns and check", "Tokens and character sets" and, for "none of the 106
--- patterns", "The seven jobs and their refusals". Assumes nothing.
-use Rattle.helpers.specs.Prelude.{ℕ, suc, _-_, _%_, _<_, _≤_, _≡_, _≢_, Bool, true, false, List, [], _∷_, _++_, eqb, length, getD, take}
+-- patterns", "The seven jobs and their refusals"; document 02, request 1. Assumes nothing.
+use Rattle.helpers.specs.Prelude.{ℕ, suc, _-_, _%_, _<_, _≤_, _≡_, _≢_, Bool, true, false, not, List, [], _∷_, _++_, eqb, length, getD, take}
 use Rattle.helpers.specs.Answers.{if_then_else_, Each}
-use Rattle.paper.specs.Iso15417.{Set, before, A, B, C, Meaning, ascii, pair, FNC, SHIFT, CODE, START, pattern, stop, same, barCells, next, digits, sent, column}
+use Rattle.paper.specs.Iso15417.{Set, before, A, B, C, Meaning, ascii, pair, FNC, SHIFT, CODE, START, pattern, stop, same, barCells, next, digits, sent, isShift, column}
 use Rattle.paper.specs.Crate.{À, Ɓ, Ć, Ź, ź, Ż, ż, Ž, letters}
 
 -- ---- the table
@@ -82,6 +82,19 @@ sends s m x = same (sent s m) (message x)
 -- does it lead to the set that the standard means?
 unfoldable pub switches : Set → ℕ → Meaning → Bool
 switches s m x = same (nameOf (next s m)) (nameOf (leads s x))
+
+-- is it the standard's Shift?
+unfoldable pub isSHIFT : Meaning → Bool
+isSHIFT (ascii c) = false
+isSHIFT (pair m) = false
+isSHIFT (FNC k) = false
+isSHIFT SHIFT = true
+isSHIFT (CODE s) = false
+isSHIFT (START s) = false
+
+-- is the number m of a set a Shift exactly where the standard means one?
+unfoldable pub shifts : Set → ℕ → Meaning → Bool
+shifts s m x = if isShift s m then isSHIFT x else not (isSHIFT x)
 
 -- a number of a set
 pub data Spot : Type 0 where

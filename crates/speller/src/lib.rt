@@ -7,11 +7,11 @@ ghost use lib.Seq.{sets};
 ghost use Rattle.helpers.specs.Answers.{Each, Gave};
 ghost use Rattle.helpers.specs.Numbers.{numberOf, secondOf};
 ghost use Rattle.helpers.specs.Contracts.{answers, Stored};
-ghost use Rattle.paper.specs.Iso15417.{before, sent};
-ghost use Rattle.paper.specs.Crate.{inBoth, asList, pointIn, letters};
+ghost use Rattle.paper.specs.Iso15417.{before, next, sent, other, scanned};
+ghost use Rattle.paper.specs.Crate.{inBoth, asList, pointIn, letters, spelled};
 ghost use Rattle.paper.specs.Jobs.{spell, scan};
 ghost use Rattle.tokens.specs.Sets.{setOf};
-ghost use Rattle.speller.specs.Walked.{saidOf, ownOf, sayOf, walked, fitted};
+ghost use Rattle.speller.specs.Walked.{saidOf, ownOf, textAfter, sayOf, walked, fitted};
 use helpers::Answer;
 use helpers::Refusal;
 use tokens::CharacterSet;
@@ -39,6 +39,30 @@ impl Said {
             Said::One(_) => 1,
             Said::Two(_, _) => 2,
         }
+    }
+}
+
+// Of sets A and B the other one; any other stays.
+fn other(set: CharacterSet) -> CharacterSet
+    ensures { λ r. ⌜ setOf r ≡ other (setOf set) ⌝ }
+{
+    match set {
+        CharacterSet::A => CharacterSet::B,
+        CharacterSet::B => CharacterSet::A,
+        CharacterSet::C => CharacterSet::C,
+        CharacterSet::None => CharacterSet::None,
+    }
+}
+
+// The set that text, a number below 96, is read in after the number m in a set: right after a
+// Shift, 98 in set A or B, the other of these two, and else the set that follows. In set C 98 is a
+// pair; it needs no look at the set, because `other` leaves C as it is.
+fn text_after(set: CharacterSet, m: u8) -> CharacterSet
+    ensures { λ r. ⌜ setOf r ≡ textAfter (setOf set) m ⌝ }
+{
+    match m {
+        98 => other(set),
+        _ => set.next(m),
     }
 }
 
@@ -135,9 +159,10 @@ fn say(way: Way, set: CharacterSet, m: u8) -> Said
 }
 
 // The number of elements that a symbol list gives. It is counted before anything is written,
-// because refusal 5 answers with it and must leave the buffer as it was.
+// because refusal 5 answers with it and must leave the buffer as it was. Shift is not looked at
+// here: it changes which bytes are sent and never how many.
 fn needed(way: Way, symbols: &[u8]) -> usize
-    ensures { λ r. ⌜ r ≡ length (walked (sayOf way) before (now (symbols .entry))) ⌝ }
+    ensures { λ r. ⌜ r ≡ length (walked next (sayOf way) before (now (symbols .entry))) ⌝ }
 {
     let mut set = CharacterSet::None;
     let mut n: usize = 0;
@@ -213,8 +238,8 @@ fn put_bytes(out: &mut [u8], at: usize, said: Said) -> usize
 // Writes the code points of a symbol list into the front of `out`: each number in the set that the
 // numbers before it have led to.
 fn write_letters(symbols: &[u8], out: &mut [u32])
-    requires { ⌜ length (walked letters before (now symbols)) ≤ length (now out) ⌝ }
-    ensures { λ _. ⌜ now (out .exit) ≡ sets (now (out .entry)) 0 (walked letters before (now (symbols .entry))) ⌝ }
+    requires { ⌜ length (spelled (now symbols)) ≤ length (now out) ⌝ }
+    ensures { λ _. ⌜ now (out .exit) ≡ sets (now (out .entry)) 0 (spelled (now (symbols .entry))) ⌝ }
 {
     let mut set = CharacterSet::None;
     let mut at: usize = 0;
@@ -228,17 +253,20 @@ fn write_letters(symbols: &[u8], out: &mut [u32])
 }
 
 // Writes the bytes of a symbol list into the front of `out`: each number in the set that the
-// numbers before it have led to.
+// numbers before it have led to, and text right after a Shift in the other of A and B. All numbers
+// are read in the set of text: from 96 on A and B both give nothing.
 fn write_bytes(symbols: &[u8], out: &mut [u8])
-    requires { ⌜ length (walked sent before (now symbols)) ≤ length (now out) ⌝ }
-    ensures { λ _. ⌜ now (out .exit) ≡ sets (now (out .entry)) 0 (walked sent before (now (symbols .entry))) ⌝ }
+    requires { ⌜ length (scanned (now symbols)) ≤ length (now out) ⌝ }
+    ensures { λ _. ⌜ now (out .exit) ≡ sets (now (out .entry)) 0 (scanned (now (symbols .entry))) ⌝ }
 {
     let mut set = CharacterSet::None;
+    let mut text = CharacterSet::None;
     let mut at: usize = 0;
     let mut i: usize = 0;
     while i < symbols.len() {
         let m = symbols[i];
-        at = put_bytes(out, at, sent(set, m));
+        at = put_bytes(out, at, sent(text, m));
+        text = text_after(set, m);
         set = set.next(m);
         i += 1;
     }

@@ -10,9 +10,9 @@ use lib.Dec.{eqb}
 use lib.ListN.{drop}
 use borrow.Author.Tests.{le-leb, lt-leb, ne-eqb}
 use Rattle.helpers.specs.Answers.{if_then_else_}
-use Rattle.paper.specs.Iso15417.{before}
+use Rattle.paper.specs.Iso15417.{before, startOf}
 use Rattle.paper.specs.Crate.{À, Ɓ, Ć, Span, span, spans, numberIn}
-use Rattle.tokens.specs.Sets.{named, startOf}
+use Rattle.tokens.specs.Sets.{named}
 
 -- the first span holds the code point
 pub number-in : (a b n : ℕ) (t : List Span) (c v : ℕ) → a ≤ c → c ≤ b → v ≡ n + (c - a) → numberIn (span a b n ∷ t) c ≡ some v

@@ -24,13 +24,6 @@ setOf None = Iso.before
 unfoldable pub named : ℕ → Set
 named c = if eqb c À then Iso.A else if eqb c Ɓ then Iso.B else if eqb c Ć then Iso.C else Iso.before
 
--- and the START of a set
-unfoldable pub startOf : Set → ℕ
-startOf Iso.before = 0
-startOf Iso.A = 103
-startOf Iso.B = 104
-startOf Iso.C = 105
-
 -- what `lookup` answers
 unfoldable pub numbered : Lookup → Option ℕ
 numbered (Unit m) = some m

@@ -2,9 +2,9 @@
 // barcoders 2.0.0: code points to symbols.
 ghost use mathlib.Core.Path.{_≡_};
 ghost use Rattle.helpers.specs.Contracts.{answers};
-ghost use Rattle.paper.specs.Iso15417.{next};
+ghost use Rattle.paper.specs.Iso15417.{next, startOf};
 ghost use Rattle.paper.specs.Crate.{spans, numberIn};
-ghost use Rattle.tokens.specs.Sets.{setOf, named, startOf, numbered};
+ghost use Rattle.tokens.specs.Sets.{setOf, named, numbered};
 ghost use Rattle.tokens.specs.Stopped.{stoppedAt};
 use helpers::Answer;
 use helpers::Refusal;

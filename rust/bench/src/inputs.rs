@@ -41,6 +41,8 @@ pub enum Kind {
     C,
     /// Any START and then any data numbers, so with function symbols and switches.
     Mixed,
+    /// Set A or B; every fourth data number is 98, a Shift, and the others are below 96.
+    Shift,
 }
 
 impl Kind {
@@ -51,6 +53,7 @@ impl Kind {
             Kind::B => "B",
             Kind::C => "C",
             Kind::Mixed => "mixed",
+            Kind::Shift => "shift",
         }
     }
 
@@ -61,6 +64,7 @@ impl Kind {
             Kind::B => (104, 96),
             Kind::C => (105, 100),
             Kind::Mixed => (103 + random.byte(3), 103),
+            Kind::Shift => (103 + random.byte(2), 96),
         }
     }
 }
@@ -83,7 +87,10 @@ pub struct Label {
 pub fn list(random: &mut Numbers, kind: Kind, n: usize) -> Vec<u8> {
     let (start, end) = kind.numbers(random);
     let mut symbols = vec![start];
-    symbols.extend((1..n).map(|_| random.byte(end)));
+    symbols.extend((1..n).map(|place| match (kind, place % 4) {
+        (Kind::Shift, 0) => 98,
+        _ => random.byte(end),
+    }));
     symbols
 }
 

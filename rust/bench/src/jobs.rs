@@ -14,6 +14,17 @@ const SIZES: [usize; 4] = [2, 14, 50, 255];
 /// The kinds of label; `Mixed` has no target for encode.
 const KINDS: [Kind; 4] = [Kind::A, Kind::B, Kind::C, Kind::Mixed];
 
+/// The kinds of label for scan, to which Shift makes a difference.
+const SCANNED: [Kind; 5] = [Kind::A, Kind::B, Kind::C, Kind::Mixed, Kind::Shift];
+
+/// The kinds and sizes of a table; a label of two symbols has no Shift.
+fn lines<const N: usize>(kinds: [Kind; N]) -> impl Iterator<Item = (Kind, usize)> {
+    kinds
+        .into_iter()
+        .flat_map(|kind| SIZES.map(|n| (kind, n)))
+        .filter(|&(kind, n)| kind != Kind::Shift || n > 2)
+}
+
 /// The number of labels in a batch. It is larger for short labels, so that the processor does not
 /// learn their symbols by heart.
 fn count(n: usize) -> usize {
@@ -98,7 +109,7 @@ pub fn encode(rounds: usize) -> Vec<Table> {
         "ns",
         "crate",
     );
-    for (kind, n) in KINDS.into_iter().flat_map(|kind| SIZES.map(|n| (kind, n))) {
+    for (kind, n) in lines(KINDS) {
         let labels = labels(kind, n, count(n));
         let points: Vec<&[u32]> = labels.iter().map(|l| &l.points[..]).collect();
         let texts: Vec<&str> = labels.iter().map(|l| &l.text[..]).collect();
@@ -176,7 +187,7 @@ macro_rules! against_plain {
         pub fn $job(rounds: usize) -> Vec<Table> {
             let title = concat!($title, " beside plain Rust");
             let mut table = Table::new(title, "set | n", "ns", "plain");
-            for (kind, n) in $kinds.into_iter().flat_map(|kind| SIZES.map(|n| (kind, n))) {
+            for (kind, n) in lines($kinds) {
                 let labels = labels(kind, n, count(n));
                 let inputs: Vec<&[u8]> = labels.iter().map(|l| &l.$input[..]).collect();
                 agree(&inputs, slatmonief::$job, plain::$job);
@@ -198,8 +209,8 @@ against_plain! {
     spell, "Spell", symbols, KINDS, Some(OF_PLAIN)
 }
 against_plain! {
-    /// Times scan, on the same labels.
-    scan, "Scan", symbols, KINDS, Some(OF_PLAIN)
+    /// Times scan, on the same labels and on labels with a Shift.
+    scan, "Scan", symbols, SCANNED, Some(OF_PLAIN)
 }
 against_plain! {
     /// Times pack, which works on cells only.

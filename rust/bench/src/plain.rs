@@ -49,6 +49,15 @@ impl Set {
             _ => self,
         }
     }
+
+    /// The set in which a Shift has the next symbol read: the other of A and B.
+    fn other(self) -> Set {
+        match self {
+            Set::A => Set::B,
+            Set::B => Set::A,
+            set => set,
+        }
+    }
 }
 
 /// What is written for one number when it is spelled or scanned.
@@ -94,13 +103,13 @@ pub fn table_read(row: &[u8], symbols: &mut [u8]) -> Answer {
 /// A symbol list to the code points that encode to it.
 #[inline(never)]
 pub fn spell(symbols: &[u8], text: &mut [u32]) -> Answer {
-    answer(try_say(symbols, text, letters, |c| c))
+    answer(try_say::<_, false>(symbols, text, letters, |c| c))
 }
 
 /// A symbol list to the bytes that a scanner sends.
 #[inline(never)]
 pub fn scan(symbols: &[u8], bytes: &mut [u8]) -> Answer {
-    answer(try_say(symbols, bytes, sent, |c| c as u8))
+    answer(try_say::<_, true>(symbols, bytes, sent, |c| c as u8))
 }
 
 /// A row's cells to a row record.
@@ -326,18 +335,24 @@ fn sent(set: Set, number: u8) -> Said {
 }
 
 /// Goes over a symbol list, keeps the current set, and calls `hear` with what `say` gives for each
-/// number.
-fn walk(symbols: &[u8], say: impl Fn(Set, u8) -> Said, mut hear: impl FnMut(Said)) {
-    let mut set = Set::None;
+/// number; with `SHIFTS`, a number below 96 right after a Shift is read in the other set.
+fn walk<const SHIFTS: bool>(
+    symbols: &[u8],
+    say: impl Fn(Set, u8) -> Said,
+    mut hear: impl FnMut(Said),
+) {
+    let (mut set, mut read_in) = (Set::None, Set::None);
     for &number in symbols {
-        hear(say(set, number));
-        set = set.next(number);
+        hear(say(if SHIFTS { read_in } else { set }, number));
+        let next = set.next(number);
+        read_in = if number == 98 { set.other() } else { next };
+        set = next;
     }
 }
 
 /// Spell and scan: the tests 10, 13 and 5, for which a first pass counts the elements, and then the
-/// pass that writes.
-fn try_say<T>(
+/// pass that writes. Shift does not change the count.
+fn try_say<T, const SHIFTS: bool>(
     symbols: &[u8],
     out: &mut [T],
     say: impl Fn(Set, u8) -> Said,
@@ -345,7 +360,7 @@ fn try_say<T>(
 ) -> Result<usize, Answer> {
     vet(symbols)?;
     let mut needed = 0;
-    walk(symbols, &say, |said| {
+    walk::<false>(symbols, &say, |said| {
         needed += match said {
             Said::Nothing => 0,
             Said::One(_) => 1,
@@ -354,7 +369,7 @@ fn try_say<T>(
     });
     let out = out.get_mut(..needed).ok_or((5, needed))?;
     let mut at = 0;
-    walk(symbols, &say, |said| match said {
+    walk::<SHIFTS>(symbols, &say, |said| match said {
         Said::Nothing => {}
         Said::One(c) => {
             out[at] = own(c);

@@ -13,7 +13,7 @@ type Job<I, O> = fn(&[I], &mut [O]) -> Result<usize, Refusal>;
 type Plain<I, O> = fn(&[I], &mut [O]) -> Answer;
 
 /// The kinds of label.
-const KINDS: [Kind; 4] = [Kind::A, Kind::B, Kind::C, Kind::Mixed];
+const KINDS: [Kind; 5] = [Kind::A, Kind::B, Kind::C, Kind::Mixed, Kind::Shift];
 
 /// The two numbers of an answer of the library.
 fn numbers(result: Result<usize, Refusal>) -> Answer {
@@ -133,13 +133,29 @@ fn on_labels() {
     }
 }
 
+/// Scan of all lists of a START and up to three numbers that have to do with Shift.
+#[test]
+fn on_lists_with_a_shift() {
+    const NUMBERS: [u8; 10] = [0, 33, 64, 95, 96, 98, 99, 100, 101, 102];
+    for at in 0..3000 {
+        let number = |place: usize| NUMBERS[at / 3 / place % 10];
+        let list = [103 + (at % 3) as u8, number(1), number(10), number(100)];
+        for length in 1..=4 {
+            same(&list[..length], 200, slatmonief::scan, plain::scan);
+        }
+    }
+    let mut bytes = [0; 3];
+    assert_eq!(plain::scan(&[103, 98, 98, 65, 65], &mut bytes), (0, 2));
+    assert_eq!(bytes, [0x61, 0x01, 0]);
+}
+
 #[test]
 fn on_damaged_texts_and_lists() {
     let mut random = Numbers::new(2);
     let mut seen = [0; 24];
     for round in 0..800 {
         let n = 1 + random.below(if round % 8 == 0 { 255 } else { 20 });
-        let l = label(list(&mut random, KINDS[round % 4], n));
+        let l = label(list(&mut random, KINDS[round % KINDS.len()], n));
         let text = damaged(&mut random, &l.points, point);
         let symbols = damaged(&mut random, &l.symbols, |random| random.byte(120));
         seen[same(&text, 9, slatmonief::encode, plain::encode).0 as usize] += 1;
@@ -163,7 +179,7 @@ fn on_damaged_rows_and_records() {
     let mut seen = [0; 24];
     for round in 0..600 {
         let n = 1 + random.below(if round % 8 == 0 { 255 } else { 20 });
-        let l = label(list(&mut random, KINDS[round % 4], n));
+        let l = label(list(&mut random, KINDS[round % KINDS.len()], n));
         for row in [
             damaged(&mut random, &l.row, |random| random.byte(3)),
             shuffled(&mut random, &l.row),

@@ -32,6 +32,9 @@ pub enum Subject {
     /// A symbol list that is drawn: its row is read, and its spelling is encoded by the library and
     /// by the crate.
     ListLaw,
+    /// A symbol list that is scanned: Shift changes neither the number of bytes nor refusal 5, and
+    /// without Shift the bytes are as document 01 had them.
+    ShiftLaw,
     /// Cells that are packed: unpack gives them back.
     RowLaw,
     /// A record that is unpacked: pack gives it back.
@@ -41,7 +44,7 @@ pub enum Subject {
 }
 
 /// Every subject that can be compared again, and its name on the command line.
-pub const SUBJECTS: [(&str, Subject); 12] = [
+pub const SUBJECTS: [(&str, Subject); 13] = [
     ("encode", Subject::Encode),
     ("drop-in", Subject::DropIn),
     ("draw", Subject::Draw),
@@ -52,6 +55,7 @@ pub const SUBJECTS: [(&str, Subject); 12] = [
     ("unpack", Subject::Unpack),
     ("text-law", Subject::TextLaw),
     ("list-law", Subject::ListLaw),
+    ("shift-law", Subject::ShiftLaw),
     ("row-law", Subject::RowLaw),
     ("record-law", Subject::RecordLaw),
 ];
@@ -224,16 +228,31 @@ pub struct Worker<'a> {
 }
 
 macro_rules! with_model {
-    ($(#[$doc:meta])* $name:ident, $subject:ident, $scratch:ident, $element:ty) => {
+    (
+        $(#[$doc:meta])*
+        $name:ident,
+        $(#[$known_doc:meta])*
+        $known:ident, $subject:ident, $scratch:ident, $element:ty
+    ) => {
         $(#[$doc])*
         pub fn $name(&mut self, input: &[u8], room: usize, mark: u8) -> Outcome {
             let said = self.model.$name(input, room);
+            self.$known(input, &said, room, mark)
+        }
+        $(#[$known_doc])*
+        pub fn $known(
+            &mut self,
+            input: &[u8],
+            said: &Said<$element>,
+            room: usize,
+            mark: u8,
+        ) -> Outcome {
             let filled = <$element>::of_mark(mark);
             let face = self.face;
             let answer = lend(&mut self.$scratch, room, filled, |out| face.$name(input, out));
-            if !agrees(&self.$scratch, filled, answer, &said) {
+            if !agrees(&self.$scratch, filled, answer, said) {
                 let (subject, buffer) = (Subject::$subject, &self.$scratch);
-                return Err(fault(subject, wide(input), room, mark, &said, answer, buffer));
+                return Err(fault(subject, wide(input), room, mark, said, answer, buffer));
             }
             self.tally.call(answer.0);
             Ok(answer.0)
@@ -374,43 +393,41 @@ impl<'a> Worker<'a> {
         Ok(())
     }
 
-    /// Compares read with the model.
-    pub fn read(&mut self, row: &[u8], room: usize, mark: u8) -> Outcome {
-        let said = self.model.read(row, room);
-        self.read_known(row, &said, room, mark)
+    with_model! {
+        /// Compares read with the model.
+        read,
+        /// Compares read with a known answer.
+        read_known, Read, bytes, u8
     }
-
-    /// Compares read with a known answer.
-    pub fn read_known(&mut self, row: &[u8], said: &Said<u8>, room: usize, mark: u8) -> Outcome {
-        let face = self.face;
-        let answer = lend(&mut self.bytes, room, mark, |list| face.read(row, list));
-        if !agrees(&self.bytes, mark, answer, said) {
-            let (subject, buffer) = (Subject::Read, &self.bytes);
-            return Err(fault(subject, wide(row), room, mark, said, answer, buffer));
-        }
-        self.tally.call(answer.0);
-        Ok(answer.0)
-    }
-
     with_model! {
         /// Compares draw with the model.
-        draw, Draw, bytes, u8
+        draw,
+        /// Compares draw with a known answer.
+        draw_known, Draw, bytes, u8
     }
     with_model! {
         /// Compares spell with the model.
-        spell, Spell, points, u32
+        spell,
+        /// Compares spell with a known answer.
+        spell_known, Spell, points, u32
     }
     with_model! {
         /// Compares scan with the model.
-        scan, Scan, bytes, u8
+        scan,
+        /// Compares scan with a known answer.
+        scan_known, Scan, bytes, u8
     }
     with_model! {
         /// Compares pack with the model.
-        pack, Pack, bytes, u8
+        pack,
+        /// Compares pack with a known answer.
+        pack_known, Pack, bytes, u8
     }
     with_model! {
         /// Compares unpack with the model.
-        unpack, Unpack, bytes, u8
+        unpack,
+        /// Compares unpack with a known answer.
+        unpack_known, Unpack, bytes, u8
     }
 }
 

@@ -87,6 +87,16 @@ pub enum Plant {
     Spare,
     /// Scan takes 99 in set C for a switch and sends nothing for it.
     Pair99,
+    /// Scan takes 98 in set C for a Shift and sends nothing for it.
+    Pair98,
+    /// Scan reads the symbol after a Shift in its own set.
+    Unshifted,
+    /// Scan shifts the two symbols after a Shift.
+    ShiftsTwo,
+    /// Scan reads a switch after a Shift in the other set, where it is FNC4.
+    ShiftsSwitch,
+    /// Scan takes a Shift after a Shift for the end of the first.
+    ShiftEnds,
     /// Encode counts code points, not bytes, for refusal 2.
     Points,
     /// Spell asks for room for one code point more than it writes.
@@ -118,7 +128,7 @@ pub enum Plant {
 }
 
 /// Every plant and its name on the command line.
-pub const PLANTS: [(&str, Plant); 23] = [
+pub const PLANTS: [(&str, Plant); 28] = [
     ("place", Plant::Place),
     ("weight", Plant::Weight),
     ("touched", Plant::Touched),
@@ -128,6 +138,11 @@ pub const PLANTS: [(&str, Plant); 23] = [
     ("after", Plant::After),
     ("spare", Plant::Spare),
     ("pair99", Plant::Pair99),
+    ("pair98", Plant::Pair98),
+    ("unshifted", Plant::Unshifted),
+    ("shifts-two", Plant::ShiftsTwo),
+    ("shifts-switch", Plant::ShiftsSwitch),
+    ("shift-ends", Plant::ShiftEnds),
     ("points", Plant::Points),
     ("room", Plant::Room),
     ("check-first", Plant::CheckFirst),
@@ -213,6 +228,26 @@ fn held_at(text: &[u32]) -> Option<usize> {
         .then_some(2)
 }
 
+/// A list whose right bytes are those of a wrong scan for this list, if the plant is wrong at the
+/// front of it. 96 sends nothing in set A or B.
+fn misread(plant: Plant, list: &[u8]) -> Option<Vec<u8>> {
+    let (front, rest): (Vec<u8>, &[u8]) = match (plant, list) {
+        (Plant::Pair99, [105, 99, rest @ ..]) => (vec![105], rest),
+        (Plant::Pair98, [105, 98, rest @ ..]) => (vec![105], rest),
+        (Plant::Unshifted, &[start @ 103..=104, 98, next @ 0..=95, ref rest @ ..]) => {
+            (vec![start, next], rest)
+        }
+        (Plant::ShiftsTwo, &[start @ 103..=104, 98, one @ 0..=95, ref rest @ ..]) => {
+            (vec![start, 98, one, 98], rest)
+        }
+        (Plant::ShiftsSwitch, [103, 98, 100, rest @ ..]) => (vec![103, 98, 96], rest),
+        (Plant::ShiftsSwitch, [104, 98, 101, rest @ ..]) => (vec![104, 98, 96], rest),
+        (Plant::ShiftEnds, &[start @ 103..=104, 98, 98, ref rest @ ..]) => (vec![start], rest),
+        _ => return None,
+    };
+    Some([&front, rest].concat())
+}
+
 impl Face for Wrong {
     fn encode(&self, text: &[u32], row: &mut [u8]) -> Answer {
         let before = row.first().copied();
@@ -288,8 +323,9 @@ impl Face for Wrong {
     }
 
     fn scan(&self, list: &[u8], bytes: &mut [u8]) -> Answer {
-        match (self.plant, list) {
-            (Plant::Pair99, [105, 99, ..]) => True.scan(&[&[105], &list[2..]].concat(), bytes),
+        let good = |list: &[u8]| matches!(True.scan(list, &mut []).0, 0 | 5);
+        match misread(self.plant, list) {
+            Some(other) if good(list) && good(&other) => True.scan(&other, bytes),
             _ => True.scan(list, bytes),
         }
     }

@@ -1,5 +1,5 @@
 //! The inputs: alphabets, labels, symbol lists, rows, and damaged copies of them.
-use crate::model::{self, Model, FNC1, LIMIT, SWITCH};
+use crate::model::{self, Model, FNC1, LIMIT, SHIFT, SWITCH};
 use crate::random::Random;
 
 /// Digits that are not ASCII.
@@ -177,11 +177,27 @@ pub fn list(random: &mut Random, n: usize) -> Vec<u8> {
             random.below(103)
         }
     };
+    list_of(random, n, data)
+}
+
+/// A symbol list of length n: any START, and data numbers as `data` gives them.
+fn list_of(random: &mut Random, n: usize, data: impl Fn(&mut Random) -> usize) -> Vec<u8> {
     let number = |place| match place {
         0 => 103 + random.below(3) as u8,
         _ => data(random) as u8,
     };
     (0..n).map(number).collect()
+}
+
+/// A symbol list of length n that draw accepts, mostly in the sets A and B: four numbers in ten are
+/// 98, and most of the others are below 96.
+pub fn list_of_shifts(random: &mut Random, n: usize) -> Vec<u8> {
+    list_of(random, n, |random| match random.below(20) {
+        0..=7 => usize::from(SHIFT),
+        8..=16 => random.below(96),
+        17 => 94 + random.below(9),
+        _ => 100 + random.below(2),
+    })
 }
 
 /// A symbol list of length n in one set (0 is A, 1 is B, 2 is C), of numbers for which a scanner

@@ -158,6 +158,40 @@ impl Worker<'_> {
         Ok(())
     }
 
+    /// A list that is scanned: Shift changes neither the number of bytes nor refusal 5, and without
+    /// Shift the bytes are as document 01 had them.
+    pub fn shift_law(&mut self, list: &[u8]) -> Result<(), Box<Fault>> {
+        let (law, shown) = (Subject::ShiftLaw, wide(list));
+        if self.model.scan(list, usize::MAX).number != 0 {
+            return Ok(());
+        }
+        let (before, any) = model::unshifted(list);
+        let need = match before.len() {
+            0 => (0, 0),
+            need => (5, need),
+        };
+        self.same(
+            law,
+            &shown,
+            "the answer with no room, as without Shift",
+            need,
+            self.face.scan(list, &mut []),
+        )?;
+        let bytes = made(600, itself, |bytes: &mut [u8]| self.face.scan(list, bytes));
+        self.same(
+            law,
+            &shown,
+            "the number of bytes without Shift",
+            Ok(before.len()),
+            bytes.as_ref().map(Vec::len).map_err(|&answer| answer),
+        )?;
+        if !any {
+            self.same(law, &shown, "the bytes of document 01", Ok(before), bytes)?;
+        }
+        self.tally.laws += 1;
+        Ok(())
+    }
+
     /// Cells that are packed are unpacked to the same cells.
     pub fn row_law(&mut self, row: &[u8]) -> Result<(), Box<Fault>> {
         let Ok(record) = made(400, itself, |record: &mut [u8]| self.face.pack(row, record)) else {
@@ -216,6 +250,7 @@ impl Worker<'_> {
             Subject::Unpack => self.unpack(&bytes, room, mark).map(drop),
             Subject::TextLaw => self.text_law(input),
             Subject::ListLaw => self.list_law(&bytes),
+            Subject::ShiftLaw => self.shift_law(&bytes),
             Subject::RowLaw => self.row_law(&bytes),
             Subject::RecordLaw => self.record_law(&bytes),
             Subject::Count => Ok(()),

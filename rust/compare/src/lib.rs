@@ -47,7 +47,7 @@ const fn part(name: &'static str, encode: bool, work: fn(&Run) -> run::Result<Ta
 }
 
 /// Every part, in the order of a run.
-pub const PARTS: [Part; 18] = [
+pub const PARTS: [Part; 20] = [
     part("encode-all", true, encode::all),
     part("encode-points", true, encode::points),
     part("encode-lengths", true, |run| {
@@ -72,6 +72,8 @@ pub const PARTS: [Part; 18] = [
     part("lists-all", false, lists::all),
     part("lists-lengths", false, lists::lengths),
     part("lists-random", false, lists::random),
+    part("lists-shift", false, lists::shift),
+    part("lists-shift-random", false, lists::shift_random),
     part("records-all", false, |run| {
         let mut tally = records::all(run)?;
         tally.add(&records::heads(run)?);

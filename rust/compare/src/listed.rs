@@ -16,7 +16,7 @@ pub enum Listed {
     TooShort,
     /// ÷ is used for DEL.
     Divide,
-    /// Ž does not change the set.
+    /// Ž is encoded and changes no set; only scan shifts.
     Shift,
     /// Ź is inside a pair.
     Held,
@@ -30,7 +30,7 @@ pub const LIST: [(Listed, &str); 7] = [
     (Listed::TooMany, "Refusal 4, more than 255 symbols"),
     (Listed::TooShort, "Refusal 5, output too short"),
     (Listed::Divide, "÷ for DEL: number 95 in set B"),
-    (Listed::Shift, "Ž (Shift, 98) shifts nothing"),
+    (Listed::Shift, "Ž (Shift, 98) shifts nothing in encode"),
     (Listed::Held, "A digit held across Ź"),
     (Listed::StartAlone, "A START with no data"),
 ];

@@ -1,7 +1,7 @@
 //! Compares draw, spell and scan on symbol lists, good and damaged.
 use crate::check::{Tally, Worker};
 use crate::inputs;
-use crate::model::cells;
+use crate::model::{accept, cells, refuse, LIMIT};
 use crate::random::Random;
 use crate::run::{Result, Run};
 
@@ -39,23 +39,31 @@ pub fn all(run: &Run) -> Result<Tally> {
             return (0..=255).try_for_each(|second| close(worker, &[block as u8, second]));
         }
         let (start, first) = ((block - 256) / 14, (block - 256) % 14);
-        special(
+        walk(
             worker,
             &mut vec![103 + start as u8, SPECIAL[first as usize]],
+            &SPECIAL,
             3,
+            &|worker, list| match list {
+                [_, _] => Ok(()), // compared above
+                _ => plain(worker, list),
+            },
         )
     })
 }
 
-/// Compares this list, if it has three numbers or more, and all lists that continue it with up to
-/// `depth` special numbers.
-fn special(worker: &mut Worker, list: &mut Vec<u8>, depth: usize) -> Result<()> {
-    if list.len() > 2 {
-        plain(worker, list)?;
-    }
-    for &number in SPECIAL.iter().filter(|_| depth > 0) {
+/// Does the work on this list and on all lists that continue it with up to `depth` of `numbers`.
+fn walk(
+    worker: &mut Worker,
+    list: &mut Vec<u8>,
+    numbers: &[u8],
+    depth: usize,
+    work: &impl Fn(&mut Worker, &[u8]) -> Result<()>,
+) -> Result<()> {
+    work(worker, list)?;
+    for &number in numbers.iter().filter(|_| depth > 0) {
         list.push(number);
-        special(worker, list, depth - 1)?;
+        walk(worker, list, numbers, depth - 1, work)?;
         list.pop();
     }
     Ok(())
@@ -134,5 +142,67 @@ pub fn lengths(run: &Run) -> Result<Tally> {
             worker.list_law(&list)?;
         }
         Ok(())
+    })
+}
+
+/// Lists with a Shift, and the bytes that request 1 of document 02 gives them.
+pub const SHIFTED: [(&[u8], &[u8]); 8] = [
+    (&[103, 98, 65], &[0x61]),
+    (&[104, 98, 65], &[0x01]),
+    (&[103, 98, 98, 65], &[0x61]),
+    (&[103, 98, 99, 12], &[0x31, 0x32]),
+    (&[105, 98], &[0x39, 0x38]),
+    (&[104, 98], &[]),
+    (&[103, 98, 65, 65], &[0x61, 0x01]),
+    (&[104, 98, 100, 65], &[0x61]),
+];
+
+/// Numbers that may stand beside a Shift: some at the ends of a range, and all from 95 on.
+const BESIDE_SHIFT: [u8; 12] = [0, 33, 64, 65, 95, 96, 97, 98, 99, 100, 101, 102];
+
+/// The lists of `SHIFTED`, scanned to exactly those bytes; and each START with up to three of the
+/// numbers beside a Shift.
+pub fn shift(run: &Run) -> Result<Tally> {
+    run.blocks(1 + 3, |worker, block| match block {
+        0 => SHIFTED
+            .iter()
+            .try_for_each(|(list, bytes)| shift_known(worker, list, bytes)),
+        _ => walk(
+            worker,
+            &mut vec![102 + block as u8],
+            &BESIDE_SHIFT,
+            3,
+            &|worker, list| {
+                close(worker, list)?;
+                worker.shift_law(list)
+            },
+        ),
+    })
+}
+
+/// Compares scan on one list with these bytes, whatever the model says, in too little room, in
+/// enough and in more.
+fn shift_known(worker: &mut Worker, list: &[u8], bytes: &[u8]) -> Result<()> {
+    worker.tally.inputs += 1;
+    for room in inputs::near(bytes.len()) {
+        let said = match room < bytes.len() {
+            true => refuse(5, bytes.len()),
+            false => accept(bytes.len(), bytes.to_vec()),
+        };
+        worker.scan_known(list, &said, room, 0xA7)?;
+    }
+    worker.shift_law(list)
+}
+
+/// Random lists with many Shifts and random room; one in eight of any length up to the limit.
+pub fn shift_random(run: &Run) -> Result<Tally> {
+    run.random_blocks("lists-shift-random", run.random / 10, |worker, random| {
+        let n = match random.below(8) {
+            0 => 1 + random.below(LIMIT),
+            _ => inputs::length(random),
+        };
+        let list = inputs::list_of_shifts(random, n);
+        with_any_room(worker, random, &list)?;
+        worker.shift_law(&list)
     })
 }

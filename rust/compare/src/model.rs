@@ -1,5 +1,5 @@
-//! A plain model of six jobs, written from document 01 and request 3 of document 02. It is given
-//! the bar patterns and uses nothing else.
+//! A plain model of six jobs, written from document 01 and requests 1 and 3 of document 02. It is
+//! given the bar patterns and uses nothing else.
 
 /// What a job must answer: the answer number, the second number, and the elements at the front of
 /// the buffer (none for a refusal).
@@ -97,13 +97,17 @@ fn allowed_at(number: u8, place: usize) -> bool {
     }
 }
 
-/// The current set after this symbol: 0 is set A, 1 is B, 2 is C.
-fn set_after(set: usize, place: usize, number: u8) -> usize {
-    match (place, number, set) {
-        (0, start, _) => usize::from(start - 103),
-        (_, 99, 0 | 1) => 2,
-        (_, 100, 0 | 2) => 1,
-        (_, 101, 1 | 2) => 0,
+/// The set that a START begins: 0 is set A, 1 is B, 2 is C.
+fn set_of(start: u8) -> usize {
+    usize::from(start - 103)
+}
+
+/// The current set after this data number.
+fn set_after(set: usize, number: u8) -> usize {
+    match (number, set) {
+        (99, 0 | 1) => 2,
+        (100, 0 | 2) => 1,
+        (101, 1 | 2) => 0,
         _ => set,
     }
 }
@@ -128,6 +132,9 @@ fn spelled(set: usize, number: u8, text: &mut Vec<u32>) {
     }
 }
 
+/// The number of Shift in the sets A and B.
+pub const SHIFT: u8 = 98;
+
 /// Adds the bytes that a scanner sends for a data number in a set.
 fn sent(set: usize, number: u8, bytes: &mut Vec<u8>) {
     match (set, number) {
@@ -135,6 +142,38 @@ fn sent(set: usize, number: u8, bytes: &mut Vec<u8>) {
         (0, 0..=63) | (1, 0..=95) => bytes.push(number + 32),
         (0, 64..=95) => bytes.push(number - 64),
         _ => {}
+    }
+}
+
+/// The bytes of a good list as document 01 had them, where Shift sends nothing and changes nothing;
+/// and whether there is a Shift in the list.
+pub fn unshifted(list: &[u8]) -> (Vec<u8>, bool) {
+    let (mut set, mut bytes, mut any) = (set_of(list[0]), Vec::new(), false);
+    for &number in &list[1..] {
+        sent(set, number, &mut bytes);
+        any |= set < 2 && number == SHIFT;
+        set = set_after(set, number);
+    }
+    (bytes, any)
+}
+
+/// The bytes of a good list after request 1: a Shift and a number below 96 are taken together, and
+/// the number is read in the other of the sets A and B.
+fn shifted(list: &[u8]) -> Vec<u8> {
+    let (mut set, mut bytes, mut rest) = (set_of(list[0]), Vec::new(), &list[1..]);
+    loop {
+        match rest {
+            [SHIFT, next @ 0..=95, after @ ..] if set < 2 => {
+                sent(1 - set, *next, &mut bytes);
+                rest = after;
+            }
+            [number, after @ ..] => {
+                sent(set, *number, &mut bytes);
+                set = set_after(set, *number);
+                rest = after;
+            }
+            [] => return bytes,
+        }
     }
 }
 
@@ -232,11 +271,11 @@ impl Model {
         if let Some((number, second)) = list_refused(list) {
             return refuse(number, second);
         }
-        let mut set = set_after(0, 0, list[0]);
+        let mut set = set_of(list[0]);
         let mut text = vec![SWITCH[set]];
-        for (place, &number) in list.iter().enumerate().skip(1) {
+        for &number in &list[1..] {
             spelled(set, number, &mut text);
-            set = set_after(set, place, number);
+            set = set_after(set, number);
         }
         in_room(room, text.len(), text)
     }
@@ -246,12 +285,7 @@ impl Model {
         if let Some((number, second)) = list_refused(list) {
             return refuse(number, second);
         }
-        let mut set = set_after(0, 0, list[0]);
-        let mut bytes = Vec::new();
-        for (place, &number) in list.iter().enumerate().skip(1) {
-            sent(set, number, &mut bytes);
-            set = set_after(set, place, number);
-        }
+        let bytes = shifted(list);
         in_room(room, bytes.len(), bytes)
     }
 

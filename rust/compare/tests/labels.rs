@@ -4,7 +4,8 @@ use compare::ask::{ask, patterns, place_by_halving, place_from_left, Crate, Trie
 use compare::check::{Fault, Subject, Worker};
 use compare::face::True;
 use compare::listed::LIST;
-use compare::model::{check, moved, Model, STOP};
+use compare::lists::SHIFTED;
+use compare::model::{check, moved, unshifted, Model, STOP};
 use compare::report::{case_of, case_word};
 
 /// The code points of a text.
@@ -109,6 +110,28 @@ fn blocks_worn_and_unknown() {
     }
     for (cell, number) in [(0, 12), (1, 16)] {
         assert_eq!(model.read(&[cell; 35], 0).number, number);
+    }
+}
+
+/// The bytes that request 1 gives for a Shift are the model's and the library's; document 01 had
+/// others, in the same number.
+#[test]
+fn labels_with_a_shift() {
+    let model = Model::new(patterns());
+    let mut worker = Worker::new(&True, &model);
+    for (list, bytes) in SHIFTED {
+        assert_eq!(model.scan(list, 508).front, bytes, "{list:?}");
+        assert_eq!(unshifted(list).0.len(), bytes.len(), "{list:?}");
+        worker.scan(list, 508, 0xA7).expect("no difference");
+        worker.shift_law(list).expect("no difference");
+    }
+    for (list, bytes, any) in [
+        (&[103, 98, 65][..], &[1][..], true),
+        (&[104, 98, 65], &[0x61], true),
+        (&[105, 98], &[0x39, 0x38], false),
+        (&[105, 98, 101, 65], &[0x39, 0x38, 1], false),
+    ] {
+        assert_eq!(unshifted(list), (bytes.to_vec(), any), "{list:?}");
     }
 }
 

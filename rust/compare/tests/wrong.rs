@@ -128,6 +128,29 @@ fn pair_99_taken_for_a_switch() {
     assert_eq!((subject, input), (Subject::Scan, vec![105, 99]));
 }
 
+/// Each wrong reading of a Shift is found among all short lists and among random ones, and made as
+/// small as it can be.
+#[test]
+fn a_shift_read_wrongly() {
+    let cases: [(Plant, &[u32], &str, &str); 5] = [
+        (Plant::Pair98, &[105, 98], "5 2, ", "0 0, "),
+        (Plant::Unshifted, &[103, 98, 64], "0 1, ", "0 1, "),
+        (Plant::ShiftsTwo, &[103, 98, 0, 64], "0 2, ", "0 2, "),
+        (Plant::ShiftsSwitch, &[103, 98, 100, 64], "0 1, ", "0 1, "),
+        (Plant::ShiftEnds, &[103, 98, 98, 64], "0 1, ", "0 1, "),
+    ];
+    for (plant, smallest, right, wrong) in cases {
+        for part in ["lists-shift", "lists-shift-random"] {
+            let (subject, input, _, expected, got) = found(plant, part);
+            assert_eq!((subject, &input[..]), (Subject::Scan, smallest), "{part}");
+            assert!(
+                expected.starts_with(right) && got.starts_with(wrong) && expected != got,
+                "{expected} and {got}"
+            );
+        }
+    }
+}
+
 #[test]
 fn code_points_counted_for_bytes() {
     let (subject, input, ..) = found(Plant::Points, "encode-all");
@@ -321,6 +344,7 @@ fn the_true_face_passes_and_the_seed_alone_decides() {
         "encode-moved",
         "read-random",
         "lists-random",
+        "lists-shift-random",
         "records-random",
     ] {
         let once = part_of(&True, part, 7, 1).expect("no difference");

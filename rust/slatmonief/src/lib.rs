@@ -146,8 +146,12 @@ job! {
     /// The text names its code sets: it begins with À, Ɓ or Ć for set A, B or C, and switches to
     /// another set by the same letters. Other letters are written for symbols that have no
     /// character of their own: Ź for FNC1, ź for FNC2, Ż for FNC3, ż for FNC4, Ž for Shift and, in
-    /// set B, ÷ for DEL. Shift does not change the set of the next code point. Set C takes digits
-    /// in pairs, Ź and the switches; a Ź inside a pair gives the same row as a Ź ahead of the pair.
+    /// set B, ÷ for DEL. Set C takes digits in pairs, Ź and the switches; a Ź inside a pair gives
+    /// the same row as a Ź ahead of the pair.
+    ///
+    /// Shift does not change the set in which the next code point is encoded, as in barcoders:
+    /// `ÀŽa` is refused, since set A has no `a`. [`scan`] does shift: `a` is 65 in set B, and 65 in
+    /// set A is U+0001, so write `ÀŽ\u{1}` to have an `a` sent.
     ///
     /// # Refusals, in this order
     ///
@@ -228,7 +232,7 @@ job! {
     /// Spells a symbol list as a text, in code points; returns the number of code points written.
     ///
     /// It is the one text that [`encode`] turns into this list and that has no Ź (FNC1) inside a
-    /// pair.
+    /// pair. So 103 98 65, with a Shift, is spelled `ÀŽ\u{1}`, while [`scan`] sends `a` for it.
     ///
     /// # Refusals, in this order
     ///
@@ -242,8 +246,11 @@ job! {
 job! {
     /// Writes the 7-bit bytes that a scanner sends for a symbol list; returns their number.
     ///
-    /// A START, a switch, Shift and the function symbols send nothing. Shift does not change the
-    /// reading of the next symbol.
+    /// A START, a switch, Shift and the function symbols send nothing. After Shift (98 in set A or
+    /// B) the next symbol alone is read in the other of these two sets, if it is below 96.
+    /// Otherwise Shift has no effect: a switch after it switches, and a second Shift is a Shift for
+    /// the symbol after that. In set C, 98 is a pair of digits. Shift changes which bytes are
+    /// written and never how many. Before version 1.2.0 it had no effect at all.
     ///
     /// # Refusals, in this order
     ///
@@ -252,6 +259,18 @@ job! {
     /// | 10 | the list is empty or has more than 255 symbols | its length |
     /// | 13 | place 0 is not a START, or a later number is above 102 | the first such place |
     /// | 5 | `bytes` is too short | the bytes needed |
+    ///
+    /// # Example
+    ///
+    /// ```
+    /// // Set A, `A`, Shift, 65, which is `a` in set B, and `B`.
+    /// let symbols = slatmonief::read_row(&slatmonief::encode_str("ÀAŽ\u{1}B")?)?;
+    /// assert_eq!(symbols, [103, 33, 98, 65, 34]);
+    /// let mut bytes = [0; slatmonief::MOST_SCANNED];
+    /// let n = slatmonief::scan(&symbols, &mut bytes)?;
+    /// assert_eq!(bytes[..n], *b"AaB");
+    /// # Ok::<(), slatmonief::Refusal>(())
+    /// ```
     scan, slatmonief_scan, Scan, symbols: u8, bytes: u8
 }
 job! {

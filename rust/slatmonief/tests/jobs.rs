@@ -81,6 +81,33 @@ fn every_job_at_every_room() {
     }
 }
 
+/// Lists with a Shift: scanned with every room, refused as any list, drawn and spelled as without
+/// Shift.
+#[test]
+fn shift_shifts_in_scan() {
+    let labels: [(&[u8], &[u8], &str); 8] = [
+        (&[103, 98, 65], b"a", "ÀŽ\u{1}"),
+        (&[104, 98, 65], b"\x01", "ƁŽa"),
+        (&[103, 98, 98, 65], b"a", "ÀŽŽ\u{1}"),
+        (&[103, 98, 99, 12], b"12", "ÀŽĆ12"),
+        (&[105, 98], b"98", "Ć98"),
+        (&[104, 98], b"", "ƁŽ"),
+        (&[103, 98, 65, 65], b"a\x01", "ÀŽ\u{1}\u{1}"),
+        (&[104, 98, 100, 65], b"a", "ƁŽża"),
+    ];
+    for (list, sent, text) in labels {
+        assert_eq!(scan_symbols(list).unwrap(), sent, "{list:?}");
+        at_every_room(200, sent, sent.len(), |out| scan(list, out));
+        assert_eq!(spell_symbols(list).unwrap(), text);
+        assert_eq!(encode_str(text).unwrap(), draw_symbols(list).unwrap());
+        let mut bytes = [200; 4];
+        let refusal = scan(&[list, &[103]].concat(), &mut bytes).unwrap_err();
+        assert_eq!((refusal.number(), refusal.second()), (13, list.len()));
+        assert_eq!(bytes, [200; 4]);
+    }
+    assert_eq!(encode_str("ÀŽa").unwrap_err().second(), 2);
+}
+
 #[test]
 fn refusals_leave_the_buffer_and_speak() {
     let mut row = [9; 40];

@@ -1,11 +1,11 @@
 -- `speller::scan` meets its contract: `fit` gives its refusals, and what it accepts is written from
 -- the front on.
 -- Assumes nothing.
-use mathlib.Core.Path.{refl}
+use mathlib.Core.Path.{refl, _∙_}
 use borrow.Author.Needs.{needs}
-use Rattle.paper.specs.Iso15417.{sent}
+use Rattle.paper.specs.Jobs.{scan}
 use Rattle.speller.specs.Walked.{sayOf}
-use Rattle.speller.proofs.Fits.{scan-walks, job-refused, job-fits, job-done}
+use Rattle.speller.proofs.Fits.{scan-fitted, job-refused, job-fits, job-done}
 use Rattle.speller.proofs.scan.Statement.{statement}
 use Rattle.speller.proofs.scan.Tie as tie
 
@@ -19,21 +19,21 @@ enum-told-2 : tie.Need-enum-told-2
 enum-told-2 c = search needs
 
 returns : tie.Need-returns
-unfolding sayOf
-returns c = rw (scan-walks _ _) (job-refused sent _ _ (c .before .before .fit .ensures) (c .enum-told2 .given .1))
+unfolding sayOf scan
+returns c = job-refused _ _ _ (c .before .before .fit .ensures ∙ scan-fitted _ _) (c .enum-told2 .given .1)
 
 write-bytes-requires : tie.Need-write-bytes-requires
-unfolding sayOf
-write-bytes-requires c κs = job-fits sent _ _ (c .before .before .before .fit .ensures) (c .before .enum-told .given .1)
+unfolding sayOf scan
+write-bytes-requires c κs = job-fits _ _ _ (c .before .before .before .fit .ensures ∙ scan-fitted _ _) (c .before .enum-told .given .1)
 
 same-length : tie.Need-same-length
 same-length c = search needs
 
 returns-2 : tie.Need-returns-2
-unfolding sayOf
+unfolding sayOf scan
 returns-2 c =
     let tested = c .before .before .before .before in
-    rw (scan-walks _ _) (job-done sent _ _ (tested .before .before .fit .ensures) (tested .enum-told .given .1) refl (c .before .before .write-bytes .ensures))
+    job-done _ _ _ (tested .before .before .fit .ensures ∙ scan-fitted _ _) (tested .enum-told .given .1) refl (c .before .before .write-bytes .ensures)
 
 pub scan-spec : {M : Type 1} → statement M
 scan-spec =

@@ -1,11 +1,11 @@
 -- `speller::spell` meets its contract: `fit` gives its refusals, and what it accepts is written
 -- from the front on.
 -- Assumes nothing.
-use mathlib.Core.Path.{refl}
+use mathlib.Core.Path.{refl, _∙_}
 use borrow.Author.Needs.{needs}
-use Rattle.paper.specs.Crate.{letters}
+use Rattle.paper.specs.Jobs.{spell}
 use Rattle.speller.specs.Walked.{sayOf}
-use Rattle.speller.proofs.Fits.{spell-walks, job-refused, job-fits, job-done}
+use Rattle.speller.proofs.Fits.{spell-fitted, job-refused, job-fits, job-done}
 use Rattle.speller.proofs.spell.Statement.{statement}
 use Rattle.speller.proofs.spell.Tie as tie
 
@@ -19,21 +19,21 @@ enum-told-2 : tie.Need-enum-told-2
 enum-told-2 c = search needs
 
 returns : tie.Need-returns
-unfolding sayOf
-returns c = rw (spell-walks _ _) (job-refused letters _ _ (c .before .before .fit .ensures) (c .enum-told2 .given .1))
+unfolding sayOf spell
+returns c = job-refused _ _ _ (c .before .before .fit .ensures ∙ spell-fitted _ _) (c .enum-told2 .given .1)
 
 write-letters-requires : tie.Need-write-letters-requires
-unfolding sayOf
-write-letters-requires c κs = job-fits letters _ _ (c .before .before .before .fit .ensures) (c .before .enum-told .given .1)
+unfolding sayOf spell
+write-letters-requires c κs = job-fits _ _ _ (c .before .before .before .fit .ensures ∙ spell-fitted _ _) (c .before .enum-told .given .1)
 
 same-length : tie.Need-same-length
 same-length c = search needs
 
 returns-2 : tie.Need-returns-2
-unfolding sayOf
+unfolding sayOf spell
 returns-2 c =
     let tested = c .before .before .before .before in
-    rw (spell-walks _ _) (job-done letters _ _ (tested .before .before .fit .ensures) (tested .enum-told .given .1) refl (c .before .before .write-letters .ensures))
+    job-done _ _ _ (tested .before .before .fit .ensures ∙ spell-fitted _ _) (tested .enum-told .given .1) refl (c .before .before .write-letters .ensures)
 
 pub spell-spec : {M : Type 1} → statement M
 spell-spec =

@@ -4,21 +4,23 @@ use Prim.Native.Nat.{_-_}
 use native.Mathlib.Omega.{arith}
 use borrow.Author.Needs.{needs}
 use lib.ListN.{length}
+use Rattle.paper.specs.Iso15417.{before, next}
 use Rattle.paper.specs.Crate.{letters}
 use Rattle.tokens.specs.Sets.{setOf}
+use Rattle.speller.proofs.Fits.{spelled-walks}
 use Rattle.speller.proofs.Walks.{Filling, filling-begin, filling-fits, filling-turn, filling-end}
 use Rattle.speller.proofs.write_letters.Statement.{statement}
 use Rattle.speller.proofs.write_letters.Tie as tie
 
 abbrev Inv-loop : tie.InvT-loop
-Inv-loop symbols out₀ set₀ at₀ i₀ out set at i = Filling letters symbols out₀ (setOf set) out at i
+Inv-loop symbols out₀ set₀ at₀ i₀ out set at i = Filling next letters symbols out₀ before (setOf set) out at i
 
 abbrev μ-loop : tie.MeasureT-loop
 μ-loop symbols out₀ set₀ at₀ i₀ out set at i = length symbols - i
 
 loop-holds : tie.Need-loop-holds Inv-loop μ-loop
 unfolding setOf
-loop-holds c = filling-begin (c .before .before .pre)
+loop-holds c = filling-begin (rw (spelled-walks _) (c .before .before .pre))
 
 shared-slice-read-m : tie.Need-shared-slice-read-m Inv-loop μ-loop
 shared-slice-read-m c = search needs
@@ -47,7 +49,7 @@ same-length : tie.Need-same-length Inv-loop μ-loop
 same-length c = search needs
 
 returns : tie.Need-returns Inv-loop μ-loop
-returns c = filling-end (c .before .loop .inv) (omega arith)
+returns c = rw (← spelled-walks _) (filling-end (c .before .loop .inv) (omega arith))
 
 pub write-letters-spec : {M : Type 1} → statement M
 write-letters-spec =

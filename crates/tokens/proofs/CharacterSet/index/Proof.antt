@@ -1,6 +1,7 @@
 -- `tokens::CharacterSet::index` meets its contract: the START of each set.
 -- Assumes nothing.
-use Rattle.tokens.specs.Sets.{setOf, startOf}
+use Rattle.paper.specs.Iso15417.{startOf}
+use Rattle.tokens.specs.Sets.{setOf}
 use borrow.Author.Needs.{needs}
 use Rattle.tokens.proofs.CharacterSet.index.Statement.{statement}
 use Rattle.tokens.proofs.CharacterSet.index.Tie as tie

@@ -1,27 +1,14 @@
 -- `tokens::CharacterSet::next` meets its contract: the switches of each set.
 -- Assumes nothing.
-use Prim.Native.Nat.{ℕ, _<_, _≤_}
-use mathlib.Core.Path.{_≡_, sym}
-use mathlib.Core.Bool.{false}
+use mathlib.Core.Path.{sym}
 use native.Mathlib.Omega.{arith}
-use lib.Dec.{eqb}
 use borrow.Author.Tests.{ne-eqb}
-use Rattle.paper.specs.Iso15417.{Set, before, A, B, C, next}
+use Rattle.paper.specs.Iso15417.{next}
+use Rattle.paper.proofs.Codes.{next-low}
 use Rattle.tokens.specs.Sets.{setOf}
 use borrow.Author.Needs.{needs}
 use Rattle.tokens.proofs.CharacterSet.next.Statement.{statement}
 use Rattle.tokens.proofs.CharacterSet.next.Tie as tie
-
--- nothing below 99 switches
-other : {m : ℕ} → m < 99 → (k : ℕ) → 99 ≤ k → eqb m k ≡ false
-other {m} h k l = ne-eqb m k (λ e. omega arith)
-
-next-low : (s : Set) (m : ℕ) → m < 99 → next s m ≡ s
-unfolding next
-next-low before m h = rw (other h 103 (omega arith), other h 104 (omega arith), other h 105 (omega arith))
-next-low A m h = rw (other h 99 (omega arith), other h 100 (omega arith))
-next-low B m h = rw (other h 99 (omega arith), other h 101 (omega arith))
-next-low C m h = rw (other h 100 (omega arith), other h 101 (omega arith))
 
 returns : tie.Need-returns
 returns c = sym (next-low _ _ (omega arith))
