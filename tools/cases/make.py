@@ -4,8 +4,8 @@
 
 The calls are the labels of document 01, inputs on both sides of each limit, and from document 02
 the Shifts of request 1 and the damaged rows of request 3. The answers come from
-../examples/model.py, which is written from these documents alone. Where a document gives the
-answer, it is written here by hand and the model must agree.
+../examples/model.py, which is written from these documents (../examples/README.md says how). Where
+a document gives the answer, it is written here by hand and the model must agree.
 
 A line of stdin has the letter of a job, the length of the lent buffer, and the input, all numbers
 in upper-case hex. The letters are E encode, D draw, R read, S spell, N scan, P pack and U unpack.

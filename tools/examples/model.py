@@ -1,5 +1,6 @@
 """The seven jobs of document 01 as requests 1 and 3 of document 02 change them, written from those
-texts alone: not from the crate, nor from specs/.
+texts alone: not from the crate, nor from specs/. One exception: the Shift of request 1 was written
+with its definition in specs/ at hand, in another form (a look back at the number before).
 
 Only the bar patterns come from elsewhere: from the crate's `CHARS`, as document 01 says. An answer
 is ("refuse", number, second) or ("accept", second, list). `room` is the number of elements of the

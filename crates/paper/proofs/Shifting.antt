@@ -2,7 +2,7 @@
 -- refusal depends on it.
 -- Assumes nothing.
 use mathlib.Core.Path.{_≡_, refl, ap, _∙_, sym}
-use mathlib.Core.Logic.{_↔_, _⊎_, inl, inr}
+use mathlib.Core.Logic.{_↔_, inl, inr}
 use mathlib.Core.Bool.{Bool, true, false, _||_}
 use mathlib.Core.List.{List, [], _∷_, _++_, append-assoc}
 use Prim.Native.Nat.{ℕ, _<_}
@@ -18,14 +18,10 @@ use Rattle.helpers.proofs.Below.{at}
 use Rattle.paper.specs.Iso15417.{Set, before, A, B, C, SHIFT, same, column, digits, startOf, sent, isShift, other, readIn, next, scannedFrom, scanned}
 use Rattle.paper.specs.Rules.{message}
 use Rattle.paper.specs.Jobs.{scan, ofList}
-use Rattle.paper.specs.Shift.{unshifted, scanUnshifted, setAfter, InAOrB, hasShift, NoTextFirst}
+use Rattle.paper.specs.Shift.{unshifted, scanUnshifted, setAfter, AOrB, hasShift, NoTextFirst}
 use Rattle.paper.proofs.Computes.{rules-computes}
 use Rattle.paper.proofs.Table.{as-equal, as-same}
 use Rattle.paper.proofs.Codes.{next-low}
-
--- one of the two sets that Shift exchanges
-abbrev AOrB : Set → Type 0
-AOrB s = (s ≡ A) ⊎ (s ≡ B)
 
 -- ---- the reading at a list that is cut in two
 
@@ -99,7 +95,7 @@ start-here C ms = refl
 
 -- ---- the promises at any place
 
-pub shift-reads : (xs : List ℕ) (m : ℕ) (ms : List ℕ) → InAOrB xs → m < 96
+pub shift-reads : (xs : List ℕ) (m : ℕ) (ms : List ℕ) → AOrB (setAfter before xs) → m < 96
     → scanned (xs ++ (98 ∷ m ∷ ms))
     ≡ scanned xs ++ (message (getD (column (other (setAfter before xs))) m SHIFT) ++ scanned (startOf (setAfter before xs) ∷ ms))
 unfolding scanned
@@ -108,7 +104,7 @@ shift-reads xs m ms a h =
     scanned-parts false before xs (98 ∷ m ∷ ms)
     ∙ ap (_++_ (scanned xs)) (shift-here (shiftAfter false before xs) s (m ∷ ms) a ∙ text-here s m ms a h ∙ rw (start-here s ms))
 
-pub shift-none : (xs ms : List ℕ) → InAOrB xs → NoTextFirst ms → scanned (xs ++ (98 ∷ ms)) ≡ scanned (xs ++ ms)
+pub shift-none : (xs ms : List ℕ) → AOrB (setAfter before xs) → NoTextFirst ms → scanned (xs ++ (98 ∷ ms)) ≡ scanned (xs ++ ms)
 unfolding scanned
 shift-none xs ms a h =
     let s = setAfter before xs in
@@ -150,7 +146,7 @@ other-length A m h = as-equal _ _ (at (λ k. eqb (length (sent B k)) (length (se
 other-length B m h = as-equal _ _ (at (λ k. eqb (length (sent A k)) (length (sent B k))) 96 tt m h)
 other-length C m h = refl
 
-pub read-length : (t : Bool) (s : Set) (m : ℕ) → length (sent (readIn t s m) m) ≡ length (sent s m)
+read-length : (t : Bool) (s : Set) (m : ℕ) → length (sent (readIn t s m) m) ≡ length (sent s m)
 unfolding readIn
 read-length false s m = refl
 read-length true s m = elim (decLt m 96) [ yes h ↦ rw (lt-ltb m 96 h) (other-length s m h) | no h ↦ rw (le-ltb m 96 (omega arith)) ]

@@ -10,7 +10,7 @@ use Rattle.paper.specs.Chars.{chars, entry}
 use Rattle.paper.specs.Rules.{PatternRule, NoPattern, spot, differences, message, writes, sends, switches, shifts}
 use Rattle.paper.specs.Damage.{blocksOf, redrawn, verdict, flipped, flippedVerdict}
 use Rattle.paper.specs.Jobs.{SymbolList, most, encode, draw, read, spell, scan, pack, unpack}
-use Rattle.paper.specs.Shift.{unshifted, scanUnshifted, setAfter, InAOrB, hasShift, NoTextFirst}
+use Rattle.paper.specs.Shift.{unshifted, scanUnshifted, setAfter, AOrB, hasShift, NoTextFirst}
 use Rattle.paper.specs.Labels.{answered, expected, starred, shiftAnswered, shiftExpected, shiftLabels}
 
 -- demands 1, 2 and 3, what document 01 says of spelling, scanning and records, and requests 1 and 3
@@ -115,11 +115,11 @@ pub record Promises : Type 0 where
   -- Request 1: wherever a Shift stands in set A or B, a number below 96 right after it gives what
   -- the standard's column of the other set says, and those after it give what they give right after
   -- the START of the set that the Shift stands in;
-  pub shift-reads : (xs : List ℕ) (m : ℕ) (ms : List ℕ) → InAOrB xs → m < 96
+  pub shift-reads : (xs : List ℕ) (m : ℕ) (ms : List ℕ) → AOrB (setAfter before xs) → m < 96
       → scanned (xs ++ (98 ∷ m ∷ ms))
       ≡ scanned xs ++ (message (getD (column (other (setAfter before xs))) m SHIFT) ++ scanned (startOf (setAfter before xs) ∷ ms))
   -- before any other number, or at the end, it may as well not be there;
-  pub shift-none : (xs ms : List ℕ) → InAOrB xs → NoTextFirst ms → scanned (xs ++ (98 ∷ ms)) ≡ scanned (xs ++ ms)
+  pub shift-none : (xs ms : List ℕ) → AOrB (setAfter before xs) → NoTextFirst ms → scanned (xs ++ (98 ∷ ms)) ≡ scanned (xs ++ ms)
   -- in set C 98 is the pair 98, and those after it give what they give right after START C;
   pub shift-pair : (xs ms : List ℕ) → setAfter before xs ≡ C → scanned (xs ++ (98 ∷ ms)) ≡ scanned xs ++ (digits 98 ++ scanned (startOf C ∷ ms))
   -- a list without Shift is answered as before the request, at every length of the buffer;

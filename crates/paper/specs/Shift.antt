@@ -20,9 +20,9 @@ unfoldable pub setAfter : Set → List ℕ → Set
 setAfter s [] = s
 setAfter s (m ∷ ms) = setAfter (next s m) ms
 
--- "98 in A or B": do these numbers lead to one of the two sets?
-abbrev pub InAOrB : List ℕ → Type 0
-InAOrB ms = (setAfter before ms ≡ A) ⊎ (setAfter before ms ≡ B)
+-- "98 in A or B": is the set one of the two?
+abbrev pub AOrB : Set → Type 0
+AOrB s = (s ≡ A) ⊎ (s ≡ B)
 
 -- is there a Shift among the numbers?
 unfoldable pub hasShift : Set → List ℕ → Bool
