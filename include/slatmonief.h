@@ -48,7 +48,9 @@ typedef struct {
 /* Encode: code points to a row. The first code point names the character set: U+00C0 for A, U+0181
  * for B, U+0106 for C. Further on, the same three switch to another set. U+017D is Shift, 98 in
  * sets A and B. It does not change the set in which the next code point is encoded: C0 17D 61 (hex)
- * is refused by 3 at place 2; C0 17D 1 is 103 98 65, which scan sends as 'a'.
+ * is refused by 3 at place 2; C0 17D 1 is 103 98 65, which scan sends as 'a'. U+017A is FNC2, 97 in
+ * sets A and B. It is retired: there it is refused by 19, and before version 1.3.0 it was accepted.
+ * Draw writes a row with FNC2. In set C, 97 is a pair of digits, and U+017A is refused by 3.
  * Accepted: second is n, and 11(n+1)+13 cells are written.
  * Refused, in this order, each test over the whole input before the next:
  *   number, when                                            second
@@ -58,6 +60,7 @@ typedef struct {
  *      a code point has no number in the current set, a     text_len for a digit left over
  *      switch comes while the first digit of a pair is
  *      held, or such a digit is left over at the end
+ *   19 a U+017A (FNC2) in the text                          the place of the first
  *   4  more than 255 symbols                                the symbols needed
  *   5  row_len is too short                                 the cells needed
  */
@@ -97,8 +100,9 @@ slatmonief_answer slatmonief_draw(const uint8_t *symbols, size_t symbols_len, ui
  */
 slatmonief_answer slatmonief_read(const uint8_t *row, size_t row_len, uint8_t *symbols, size_t symbols_len);
 
-/* Spell: a symbol list to the one text that encodes to it with no FNC1 (U+0179) inside a pair. So
- * 103 98 65 is spelled C0 17D 1 (hex), and scanned as 'a'.
+/* Spell: a symbol list to its text, with no FNC1 (U+0179) inside a pair. So 103 98 65 is spelled C0
+ * 17D 1 (hex), and scanned as 'a'. Encode turns the text into the list again, unless it has a 17A:
+ * 97 (FNC2) in set A or B is still spelled 17A, which encode refuses by 19. Draw writes that row.
  * Accepted: second is the number of code points written.
  * Refused, in this order:
  *   number, when                                            second

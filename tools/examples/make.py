@@ -12,7 +12,7 @@ import subprocess
 import textwrap
 
 import model
-from model import PATTERNS, STOP, refuse
+from model import FNC2, PATTERNS, STOP, refuse
 
 REPOSITORY = os.path.dirname(os.path.dirname(os.path.dirname(os.path.abspath(__file__))))
 RUST = os.path.join(REPOSITORY, "rust")
@@ -60,7 +60,8 @@ def crate_places(labels):
 
 
 def crate_answers(labels):
-    """The answer to each label. The crate has no refusal 4: the symbols are counted in its row."""
+    """Document 01's answer to each label, before request 12. The crate has no refusal 4: the symbols
+    are counted in its row."""
     answers = []
     for label, got, place in zip(labels, crate_many(labels), crate_places(labels)):
         if got == "Length":
@@ -70,9 +71,26 @@ def crate_answers(labels):
         else:
             n = (len(got) - 24) // 11
             answer = ("accept", n, [int(d) for d in got]) if n <= 255 else refuse(4, n)
-        assert answer == model.encode(ROOM, label), (label, answer)
+        assert answer == model.encode_with_fnc2(ROOM, label), (label, answer)
         answers.append(answer)
     return answers
+
+
+RETIRED = []
+
+
+def not_retired(labels, answers):
+    """The labels with the crate's answers, but for those with ź that the crate accepts (or 4, if
+    its row has more than 255 symbols): encode refuses these by 19, and they go to RETIRED."""
+    stay = []
+    for label, answer in zip(labels, answers):
+        if FNC2 in label and (answer[0] == "accept" or answer[1] == 4):
+            assert model.encode(ROOM, label) == refuse(19, label.index(FNC2)), label
+            RETIRED.append((label, answer))
+        else:
+            assert model.encode(ROOM, label) == answer, (label, answer)
+            stay.append((label, answer))
+    return stay
 
 
 # ---------------------------------------------------------------- antt
@@ -169,15 +187,15 @@ def row_answer(answer):
 def labels_table(group, name, comment, labels):
     unique = [list(t) for t in dict.fromkeys(tuple(l) for l in labels)]
     answers = crate_answers(unique)
-    table(group, name, "Label", comment, ["%s ⇒ %s" % (text(l), row_answer(a)) for l, a in zip(unique, answers)])
+    table(group, name, "Label", comment, ["%s ⇒ %s" % (text(l), row_answer(a)) for l, a in not_retired(unique, answers)])
     states("%s-hold" % name, "answered %s ≡ expected %s" % (name, name))
     return list(zip(unique, answers))
 
 
 def points_table(group, name, comment, labels):
     """Like labels_table, with the labels written as code points in hexadecimal."""
-    shown = [" ∷ ".join(["0x%X" % c for c in l] + ["[]"]) for l in labels]
-    table(group, name, "Example", comment, ["%s into 2829 gives %s" % (x, row_answer(a)) for x, a in zip(shown, crate_answers(labels))])
+    shown = [(" ∷ ".join(["0x%X" % c for c in l] + ["[]"]), a) for l, a in not_retired(labels, crate_answers(labels))]
+    table(group, name, "Example", comment, ["%s into 2829 gives %s" % (x, row_answer(a)) for x, a in shown])
     states("%s-hold" % name, "map (asked encode) %s ≡ map given %s" % (name, name))
 
 
@@ -187,8 +205,12 @@ def examples_table(group, name, job, comment, entries):
         states("%s-hold" % name if j == job else "%s-of-%s" % (name, j), "map (asked %s) %s ≡ map given %s" % (j, name, name))
 
 
+def model_of(job):
+    return model.encode_with_fnc2 if job == "encodeWithFNC2" else getattr(model, job)
+
+
 def held_to(job, shown, value, room, answer, form):
-    got = getattr(model, job)(room, value)
+    got = model_of(job)(room, value)
     assert got == answer, (job, shown, room, got, answer)
     return "%s into %d gives %s" % (shown, room, form(answer))
 
@@ -339,7 +361,9 @@ then what `Code128` answers when it is run. Rows are written in hexadecimal. Err
 refusal 2 and Error::Character is refusal 3. The crate gives no place: the place is the length of
 the longest prefix of the label that the crate accepts with some ending, and each prefix was tried
 with these endings: none, À, 0, 00, Ź0, A, a. The crate cannot be asked about D800..DFFF and above
-10FFFF, which are no Rust chars, nor about the length of a buffer; and it has no upper limit.
+10FFFF, which are no Rust chars, nor about the length of a buffer; and it has no upper limit. The
+labels with ź that the crate accepts, and that encode refuses by request 12 of document 02, stand in
+`withFNC2`.
 """))
 
 full = open(CODE128, encoding="utf-8").read()
@@ -388,10 +412,10 @@ states("crate-bars", "map barCells (elevens 106 crateChars) ≡ crateBars")
 
 # every number in every set
 SPECIAL = "ŻźŽżŹ"
-numbers = [P("À") + list(range(a, b)) for a, b in ((0x20, 0x40), (0x40, 0x60), (0x00, 0x10), (0x10, 0x20))] + [P("À" + SPECIAL)]
-numbers += [P("Ɓ") + list(range(0x20, 0x40)), P("Ɓ") + list(range(0x40, 0x60)), P("Ɓ") + list(range(0x60, 0x7F)) + [0xF7], P("Ɓ" + SPECIAL)]
+numbers = [P("À") + list(range(a, b)) for a, b in ((0x20, 0x40), (0x40, 0x60), (0x00, 0x10), (0x10, 0x20))] + [P("À" + SPECIAL), P("ÀŻŽżŹ")]
+numbers += [P("Ɓ") + list(range(0x20, 0x40)), P("Ɓ") + list(range(0x40, 0x60)), P("Ɓ") + list(range(0x60, 0x7F)) + [0xF7], P("Ɓ" + SPECIAL), P("ƁŻŽżŹ")]
 numbers += [P("Ć" + "".join("%02d" % m for m in range(a, a + 25))) for a in (0, 25, 50, 75)] + [P("ĆŹ")]
-got = labels_table("c", "everyNumber", "every number of each set, but for the switches", numbers)
+got = labels_table("c", "everyNumber", "every number of each set, but for the switches and FNC2", numbers)
 assert all(a[0] == "accept" for _, a in got)
 
 switches = ["ÀƁ", "ÀĆ", "ƁÀ", "ƁĆ", "ĆÀ", "ĆƁ", "ÀƁa", "ÀĆ00", "ƁÀ\x1f", "ƁĆ99", "ĆÀ\x00", "ĆƁz", "ÀƁÀƁ", "ÀĆÀĆ", "ƁĆƁĆ", "ÀƁĆÀĆƁÀ", "ĆƁÀĆƁÀĆ", "Ć12À\x01Ɓ~Ć34",
@@ -401,7 +425,8 @@ labels_table("c", "everySwitch", "every switch, to another set and to the curren
 
 shifts = [start + c for start in "ÀƁĆ" for c in "ŽżźŻŹ"]
 shifts += ["ÀŽa", "ÀŽ\x01", "ƁŽ\x01", "ƁŽa", "ƁŽA", "ÀŽŽ", "ÀżA", "Ɓż€", "ƁźŻżŹ", "ĆŹŹŹ", "Ć12Ž", "Ć1Ž2", "Ć1ż2", "Ć1ź2", "Ć1Ż2", "ĆƁŽ", "ĆÀż", "ÀĆŽ", "ƁĆż"]
-labels_table("c", "everyFunction", "Shift and the function symbols in every set: in encode Ž shifts nothing, and set C has Ź alone", [P(s) for s in shifts])
+labels_table("c", "everyFunction", "Shift and the function symbols in every set, without FNC2 in sets A and B: in encode Ž shifts nothing, and set C has Ź alone",
+             [P(s) for s in shifts])
 
 held = ["Ć12", "Ć1Ź2", "ĆŹ12", "Ć1ŹŹ2", "Ć1ŹŹŹ2", "ĆŹ1Ź2", "ĆŹŹ1Ź2", "Ć12Ź", "ĆŹ1Ź2Ź", "Ć1Ź234", "Ć1Ź23Ź4", "Ć12Ź34", "Ć12Ź3Ź4", "Ć1ŹŹ23ŹŹ4Ź", "Ć0Ź0", "Ć9Ź9", "Ć00", "Ć99",
         "Ć09", "Ć90", "ƁĆ1ŹŹ2", "ƁĆ1Ź2Ɓ", "Ć1Ź2ÀA", "Ć1Ź2Ɓa", "Ć1234567890", "Ć1", "Ć123", "Ć12345", "Ć1Ź", "Ć1ŹŹ", "Ć1Ź23", "Ć12Ź3", "Ć12Ź3Ź", "Ć1ŹÀ", "Ć1ŹƁ2", "Ć1ŹĆ2", "Ć1ŹA", "Ć1A",
@@ -447,29 +472,56 @@ def random_label(length, stay=True):
     return label
 
 
-got = labels_table("c", "randomly", "one random label of each length from 2 to 40", [random_label(k) for k in range(2, 41)])
+# where a random label has ź, the same label with Ż in place of each ź comes after it
+labels = [random_label(k) for k in range(2, 41)]
+both = [l for label in labels for l in (label, [0x17B if c == FNC2 else c for c in label])]
+got = labels_table("c", "randomly", "one random label without ź of each length from 2 to 40", both)
 assert all(a[0] == "accept" for _, a in got)
-RANDOM = got
+RANDOM = [(label, a) for label, a in got if label in labels]
 labels, k = [], 0
 while len(labels) < 30:
     label = random_label(3 + k % 20, stay=False)
-    if model.encode(ROOM, label)[0] == "refuse":
+    if model.encode_with_fnc2(ROOM, label)[0] == "refuse":
         labels.append(label)
         k += 1
 labels_table("c", "randomlyWrong", "random labels with one code point changed, so that they are refused", labels)
 
 
 # labels that have a given check
-def with_check(start, wanted):
+def with_check(start, wanted, fnc2=True):
     while True:
         label = random_label(rng.randrange(2, 7))
         symbols = model.parse(label)
-        if label[0] == start and model.check_of(symbols) == wanted:
+        if label[0] == start and model.check_of(symbols) == wanted and (fnc2 or FNC2 not in label):
             return label
 
 
-got = labels_table("c", "checksOn", "for each of the checks 0, 1, 64, 95, 96, 99, 101 and 102, one label of each START",
-                   [with_check(s, c) for c in (0, 1, 64, 95, 96, 99, 101, 102) for s in (0xC0, 0x181, 0x106)])
+# where such a label has ź, one without ź comes after it
+wanted = [(s, c) for c in (0, 1, 64, 95, 96, 99, 101, 102, 97) for s in (0xC0, 0x181, 0x106)]
+labels = [with_check(s, c) for s, c in wanted]
+labels = [l for (s, c), label in zip(wanted, labels)
+          for l in ([label, with_check(s, c, fnc2=False)] if FNC2 in label else [label])]
+labels_table("c", "checksOn", "for each of the checks 0, 1, 64, 95, 96, 99, 101, 102 and 97, one label without ź of each START", labels)
+
+# the labels with ź that the crate accepts: those left out above, others, and two of more than 255 symbols
+more = ["ƁAźź", "ĆƁź", "ĆÀź", "Ć97Ɓź", "Ć97Àź", "ÀƁź", "ƁÀź", "ÀźƁź", "ƁźĆ12", "ÀĆ12Ɓź", "Ć1Ź2Ɓź", "ƁźĆ1Ź2", "ƁŽź", "ÀŹź", "Ɓ÷ź", "À\x00ź", "ƁźAź", "ÀAIMź", "ƁAIMĆ1234Ɓź"]
+long = [("Ɓ ∷ replicate 255 0x17A", [0x181] + [FNC2] * 255), ("Ɓ ∷ replicate 300 65 ++ (0x17A ∷ [])", [0x181] + [65] * 300 + [FNC2])]
+labels = [P(x) for x in more] + [l for _, l in long]
+assert not_retired(labels, crate_answers(labels)) == []
+shown = {tuple(l): x for x, l in long}
+entries = []
+for label, answer in {tuple(l): a for l, a in RETIRED}.items():
+    place = "".join(map(chr, label)).index("ź")
+    entries.append("%s firstAt %d gives %s" % (shown.get(label) or "points " + text(label), place, row_answer(answer)))
+table("c", "withFNC2", "WithFNC2", """
+The labels with ź that the crate accepts: those left out of the tables above, and others, two of
+them with more than 255 symbols. Before request 12 of document 02 they were answered by the crate's
+row, or by 4 above 255 symbols; now they are refused 19 at their first ź, whose place was looked up
+in the text.
+""", entries)
+COUNTS.append(("k", "withFNC2", len(entries)))
+states("withFNC2-before", "map (answerOf encodeWithFNC2) withFNC2 ≡ map ofCrate withFNC2")
+states("withFNC2-hold", "map (answerOf encode) withFNC2 ≡ map retired withFNC2")
 
 # sweeps
 FAR = [0x7FF, 0x800, 0xD7FF, 0xE000, 0xFFFF, 0x10000, 0x10FFFF]
@@ -492,7 +544,8 @@ for first, rest, place in (("", "A", 0), ("À", "", 1), ("Ɓ", "", 1), ("Ć", ""
 table("c", "sweeps", "Sweep", """
 Every code point below 512 and 7FF, 800, D7FF, E000, FFFF, 10000 and 10FFFF, put between two texts:
 those that are not refused 3 at that place, in their order. The crate was run on all other code
-points up to 10FFFF too, and refuses each with Error::Character.
+points up to 10FFFF too, and refuses each with Error::Character. The crate accepts ź in sets A and
+B, and encode refuses it there by 19: see `fnc2Swept`.
 """, sweeps, each=SWEPT + len(FAR))
 states("sweeps-hold", "map passing sweeps ≡ map kept sweeps")
 
@@ -530,7 +583,7 @@ def put(block, i, c):
     return block[:i] + c + block[i + 1:]
 
 
-def reading(name, comment, cases):
+def reading(name, comment, cases, group="d"):
     entries = []
     for row, room, answer in cases:
         if isinstance(row, tuple):
@@ -538,7 +591,7 @@ def reading(name, comment, cases):
         else:
             shown, value = 'cellsOf "%s"' % row, [int(d) for d in row.replace(" ", "")]
         entries.append(held_to("read", shown, value, room, answer, lambda a: plain_answer(a, listed)))
-    examples_table("d", name, "read", comment, entries)
+    examples_table(group, name, "read", comment, entries)
 
 
 NONE = "11000111010"   # the first eleven cells of the stop
@@ -715,18 +768,24 @@ LISTS = [
     ([104, 33, 41, 45, 99, 12, 34], "ƁAIMĆ1234", "AIM1234"), ([103, 48, 42, 42, 17, 18, 19, 35], "ÀPJJ123C", "PJJ123C"),
     ([105, 102, 0, 12, 34, 56, 78, 90, 12, 34, 56, 78, 100, 16], "ĆŹ00123456789012345678Ɓ0", "001234567890123456780"),
 ]
-entries = []
-crate_rows = crate_many([P(x) for _, x, _ in LISTS])
-for (s, x, b), got in zip(LISTS, crate_rows):
-    row = [int(d) for d in got]
-    assert model.spell(len(x), s) == accept(P(x)) and model.scan(len(b), s) == accept(P(b)) and model.draw(len(row), s) == accept(row, len(s)), (s, x, b)
-    entries.append("(%s) spells %s scans %s draws %s" % (listed(s), text(P(x)), text(P(b)), hexed(row)))
-table("e", "lists", "Listed", """
+
+
+def lists_table(group, name, comment, lists):
+    entries = []
+    crate_rows = crate_many([P(x) for _, x, _ in lists])
+    for (s, x, b), got in zip(lists, crate_rows):
+        row = [int(d) for d in got]
+        assert model.spell(len(x), s) == accept(P(x)) and model.scan(len(b), s) == accept(P(b)) and model.draw(len(row), s) == accept(row, len(s)), (s, x, b)
+        entries.append("(%s) spells %s scans %s draws %s" % (listed(s), text(P(x)), text(P(b)), hexed(row)))
+    table(group, name, "Listed", comment, entries, each=3)
+    states("%s-hold" % name, "map threeJobs %s ≡ map threeAnswers %s" % (name, name))
+
+
+lists_table("e", "lists", """
 Symbol lists, the label that spell writes and the bytes that scan sends, by hand from document 01
 and request 1 of document 02; the row is what the crate writes for that label. Each job gets a
 buffer just long enough.
-""", entries, each=3)
-states("lists-hold", "map threeJobs lists ≡ map threeAnswers lists")
+""", LISTS)
 
 bad = [
     ("[]", [], 0, refuse(10, 0)), ("[]", [], 2829, refuse(10, 0)),
@@ -925,10 +984,12 @@ and one too many, and the versions 0, 2, 3 and 255.
 
 title("g. Ź inside a pair")
 MOVED = [("Ć1Ź2", "ĆŹ12"), ("Ć1ŹŹ2", "ĆŹŹ12"), ("Ć1ŹŹŹ2", "ĆŹŹŹ12"), ("ĆŹ1Ź2Ź", "ĆŹŹ12Ź"), ("Ć12Ź3Ź4", "Ć12ŹŹ34"), ("Ć1Ź23Ź4", "ĆŹ12Ź34"), ("Ć1ŹŹ23ŹŹŹ4", "ĆŹŹ12ŹŹŹ34"),
-         ("ÀĆ1Ź2", "ÀĆŹ12"), ("ÀAŹĆ9Ź9ÀŹA", "ÀAŹĆŹ99ÀŹA"), ("Ɓ1Ź2Ć1Ź2", "Ɓ1Ź2ĆŹ12"), ("Ć1Ź2Ɓ1Ź2", "ĆŹ12Ɓ1Ź2"), ("Ć1Ź2ÀĆ3Ź4", "ĆŹ12ÀĆŹ34"), ("Ć12345Ź6", "Ć1234Ź56"), ("Ć0Ź00Ź0", "ĆŹ00Ź00")]
-STILL = ["", "À", "Ć", "1Ź2", "1Ź2Ć34", "ĆŹ12", "Ć12", "Ć12Ź", "Ć12Ź34", "ĆŹŹ12ŹŹ", "À1Ź2", "Ɓ1Ź2", "ÀAŹ1Ź2", "Ć12Ɓ1Ź2", "Ć12À1Ź2", "ĆŹ", "ƁŽ1Ź2", "ĆƁ1Ź2", "ÀĆŹ1234Ź"]
+         ("ÀĆ1Ź2", "ÀĆŹ12"), ("ÀAŹĆ9Ź9ÀŹA", "ÀAŹĆŹ99ÀŹA"), ("Ɓ1Ź2Ć1Ź2", "Ɓ1Ź2ĆŹ12"), ("Ć1Ź2Ɓ1Ź2", "ĆŹ12Ɓ1Ź2"), ("Ć1Ź2ÀĆ3Ź4", "ĆŹ12ÀĆŹ34"), ("Ć12345Ź6", "Ć1234Ź56"), ("Ć0Ź00Ź0", "ĆŹ00Ź00"),
+         ("ƁźĆ1Ź2", "ƁźĆŹ12")]
+STILL = ["", "À", "Ć", "1Ź2", "1Ź2Ć34", "ĆŹ12", "Ć12", "Ć12Ź", "Ć12Ź34", "ĆŹŹ12ŹŹ", "À1Ź2", "Ɓ1Ź2", "ÀAŹ1Ź2", "Ć12Ɓ1Ź2", "Ć12À1Ź2", "ĆŹ", "ƁŽ1Ź2", "ĆƁ1Ź2", "ÀĆŹ1234Ź", "Ɓ1ź2", "ƁźŹ1Ź2"]
 for x, y in MOVED:
-    assert model.settle(P(x)) == P(y) and model.encode(ROOM, P(x)) == model.encode(ROOM, P(y)) and model.encode(ROOM, P(x))[0] == "accept" and crate_many([P(x)]) == crate_many([P(y)])
+    assert model.settle(P(x)) == P(y) and crate_many([P(x)]) == crate_many([P(y)])
+    assert model.encode_with_fnc2(ROOM, P(x)) == model.encode_with_fnc2(ROOM, P(y)) and model.encode_with_fnc2(ROOM, P(x))[0] == "accept"
 for x in STILL:
     assert model.settle(P(x)) == P(x)
 table("g", "settling", "Settled", """
@@ -962,12 +1023,24 @@ def then(first, rest):
 
 
 ROW_A = "11010000100110110011001100011101011"
+ROW_FNC2 = "11010010000" + "11110101000" + "11110100010" + STOP   # 104, 97 and the check 98
+assert rows(104, 97, 98).replace(" ", "") == ROW_FNC2
 entries = []
 for job, given, before, number, second, after in [
     ("encode", shown_text("À"), shown_equal(37, 7), 0, 1, then(shown_cells(ROW_A), shown_list(7, 7))),
     ("encode", shown_text("À"), shown_equal(35, 9), 0, 1, shown_cells(ROW_A)),
     ("encode", shown_text("À"), shown_equal(34, 9), 5, 35, shown_equal(34, 9)),
     ("encode", shown_text("Ć1"), shown_list(4, 5, 6), 3, 2, shown_list(4, 5, 6)),
+    ("encode", shown_text("Ɓź"), shown_equal(47, 7), 19, 1, shown_equal(47, 7)),
+    ("encode", shown_text("Ć97Ɓź"), shown_list(4, 5, 6), 19, 4, shown_list(4, 5, 6)),
+    ("encode", shown_text("Ɓź"), shown_list(), 19, 1, shown_list()),
+    ("encode", shown_text("Ɓź€"), shown_equal(47, 7), 3, 2, shown_equal(47, 7)),
+    ("encodeWithFNC2", shown_text("Ɓź"), shown_equal(47, 7), 0, 2, then(shown_cells(ROW_FNC2), shown_list(7))),
+    ("encodeWithFNC2", shown_text("Ɓź"), shown_list(4, 5, 6), 5, 46, shown_list(4, 5, 6)),
+    ("draw", shown_list(104, 97), shown_equal(47, 7), 0, 2, then(shown_cells(ROW_FNC2), shown_list(7))),
+    ("read", shown_cells(ROW_FNC2), shown_list(1, 2, 3), 0, 2, shown_list(104, 97, 3)),
+    ("spell", shown_list(104, 97), shown_list(8, 8, 8), 0, 2, ("Ɓ ∷ 0x17A ∷ 8 ∷ []", P("Ɓź") + [8])),
+    ("scan", shown_list(104, 97), shown_list(8, 9), 0, 0, shown_list(8, 9)),
     ("draw", shown_list(105, 2), shown_list(3), 5, 46, shown_list(3)),
     ("read", shown_cells(ROW_A), shown_list(1, 2, 3), 0, 1, shown_list(103, 2, 3)),
     ("read", shown_cells(ROW_A[:-1] + "0"), shown_list(1, 2, 3), 15, 34, shown_list(1, 2, 3)),
@@ -985,7 +1058,7 @@ for job, given, before, number, second, after in [
     ("unpack", shown_bytes("01 01 00 00 00 00 00"), shown_equal(36, 5), 0, 35, then(shown_equal(35, 0), shown_list(5))),
     ("unpack", shown_bytes("01 00"), shown_list(6), 22, 0, shown_list(6)),
 ]:
-    got = getattr(model, job)(len(before[1]), given[1])
+    got = model_of(job)(len(before[1]), given[1])
     if got[0] == "refuse":
         assert got[1:] == (number, second) and after[1] == before[1], (job, given, got)
     else:
@@ -1047,6 +1120,116 @@ START, in data, in the check and in the stop of others.
 """, entries, each=3)
 states("flippings-hold", "map flips flippings ≡ map thrice flippings")
 
+# ================================================================ k. FNC2 retired
+
+title("k. FNC2 retired")
+entries = by_hand("encode", [
+    # whatever the length of the buffer
+    *[('points "Ɓź"', P("Ɓź"), room, refuse(19, 1)) for room in (0, 34, 35, 45, 46, 2829)],
+    # the place of the first ź
+    *[('points "%s"' % x, P(x), ROOM, refuse(19, place)) for x, place in (
+        ("Àź", 1), ("ƁAźź", 2), ("ÀźźźA", 1), ("ĆƁź", 2), ("ĆÀź", 2), ("Ć97Ɓź", 4), ("ÀĆ9797Ɓź", 7), ("Ć1Ź2Àź", 5), ("ƁźĆ12", 1), ("ÀƁź", 2), ("ƁÀź", 2), ("ÀźƁź", 1),
+        ("ƁŽź", 2), ("Ɓ÷÷ź", 3), ("ƁŹŻŽżź", 5), ("ƁźĆ12Ź", 1))],
+    # 1 over the whole input before 19
+    ("Ɓ ∷ 0x17A ∷ 0xD800 ∷ []", [0x181, FNC2, 0xD800], ROOM, refuse(1, 2)),
+    ("Ɓ ∷ 0x17A ∷ 0x110000 ∷ 0x17A ∷ []", [0x181, FNC2, 0x110000, FNC2], 0, refuse(1, 2)),
+    ("0x17A ∷ 0xDFFF ∷ []", [FNC2, 0xDFFF], ROOM, refuse(1, 1)),
+    ("Ɓ ∷ 0x17A ∷ replicate 300 65 ++ (0xD800 ∷ [])", [0x181, FNC2] + [65] * 300 + [0xD800], ROOM, refuse(1, 302)),
+    # 3 over the whole input before 19; in set C ź is 3
+    *[('points "%s"' % x, P(x), ROOM, refuse(3, place)) for x, place in (
+        ("ź", 0), ("źƁ", 0), ("Ćź", 1), ("Ć12ź", 3), ("ƁĆź", 2), ("ÀĆ97ź", 4), ("ƁźĆź", 3), ("Ɓź€", 2), ("Ɓ€ź", 1), ("Àźa", 2), ("ƁźƁ", 2), ("ÀźÀ", 2))],
+    # a digit held, and one left over
+    *[('points "%s"' % x, P(x), ROOM, refuse(3, place)) for x, place in (
+        ("Ć1ź", 2), ("Ć1ź2", 2), ("Ć1Źź2", 3), ("ƁźĆ1À", 4), ("ƁźĆ1", 4), ("ƁźĆ1Ź", 5), ("ÀźĆ123", 6))],
+    ('points "Ɓź€"', P("Ɓź€"), 0, refuse(3, 2)),
+    ("Ɓ ∷ 0x17A ∷ replicate 300 65 ++ (0x20AC ∷ [])", [0x181, FNC2] + [65] * 300 + [0x20AC], ROOM, refuse(3, 302)),
+    # 19 before 4 and 5
+    ("Ɓ ∷ 0x17A ∷ replicate 253 65", [0x181, FNC2] + [65] * 253, 0, refuse(19, 1)),
+    ("Ɓ ∷ replicate 253 65 ++ (0x17A ∷ [])", [0x181] + [65] * 253 + [FNC2], 2828, refuse(19, 254)),
+    ("Ɓ ∷ replicate 254 65 ++ (0x17A ∷ [])", [0x181] + [65] * 254 + [FNC2], ROOM, refuse(19, 255)),
+    ("Ɓ ∷ 0x17A ∷ replicate 254 65", [0x181, FNC2] + [65] * 254, ROOM, refuse(19, 1)),
+    ("Ć ∷ replicate 510 48 ++ (Ɓ ∷ 0x17A ∷ [])", [0x106] + [48] * 510 + [0x181, FNC2], 0, refuse(19, 512)),
+    ("À ∷ replicate 255 0x17A", [0xC0] + [FNC2] * 255, 0, refuse(19, 1)),
+], listed)
+examples_table("k", "fnc2Refused", "encode", """
+Refusal 19 and its place in the order, by hand from request 12 of document 02: "19 at the first ź
+(its place), after 3 and before 4; in set C ź is still 3".
+""", entries)
+
+
+def shown_row(*blocks):
+    return accept([int(d) for d in rows(*blocks).replace(" ", "")], len(blocks) - 1)
+
+
+def spaced(cells):
+    """A row, eleven cells together."""
+    cut = len(cells) - 13
+    s = "".join(map(str, cells))
+    return 'cellsOf "%s"' % " ".join([s[i:i + 11] for i in range(0, cut, 11)] + [s[cut:]])
+
+
+entries = by_hand("encodeWithFNC2", [
+    ('points "Ɓź"', P("Ɓź"), 46, shown_row(104, 97, 98)), ('points "Àź"', P("Àź"), 46, shown_row(103, 97, 97)), ('points "ƁAźź"', P("ƁAźź"), 68, shown_row(104, 33, 97, 97, 4)),
+    ('points "ĆƁź"', P("ĆƁź"), 57, shown_row(105, 100, 97, 90)), ('points "Ć97Ɓź"', P("Ć97Ɓź"), 68, shown_row(105, 97, 100, 97, 75)),
+    *[('points "Ɓź"', P("Ɓź"), room, refuse(5, 46)) for room in (0, 34, 35, 45)],
+    # 3 before 4, 4 before 5
+    ('points "Ćź"', P("Ćź"), ROOM, refuse(3, 1)), ('points "Ɓź€"', P("Ɓź€"), 0, refuse(3, 2)), ('points "ƁźĆ1"', P("ƁźĆ1"), ROOM, refuse(3, 4)),
+    ("Ɓ ∷ 0x17A ∷ 0xD800 ∷ []", [0x181, FNC2, 0xD800], ROOM, refuse(1, 2)),
+    ("Ɓ ∷ 0x17A ∷ replicate 254 65", [0x181, FNC2] + [65] * 254, 0, refuse(4, 256)),
+    ("Ɓ ∷ 0x17A ∷ replicate 253 65", [0x181, FNC2] + [65] * 253, 2828, refuse(5, 2829)),
+], spaced)
+examples_table("k", "fnc2Before", "encodeWithFNC2", """
+Document 01's encoder, before request 12, by hand: ź is 97 in sets A and B. The checks are
+104+97=201, 103+97=200, 104+33+2·97+3·97=622, 105+100+2·97=399 and 105+97+2·100+3·97=693, all modulo
+103.
+""", entries)
+
+entries = []
+for x, blocks in (("ƁŻ", (104, 96, 97)), ("Ć97", (105, 97, 99)), ("ƁŹ", (104, 102, 0)), ("ÀŻ", (103, 96, 96)), ("Ɓz", (104, 90, 91)), ("ÀĆ97", (103, 99, 97, 87)), ("Ć97ƁŻ", (105, 97, 100, 96, 72))):
+    for job in ("encode", "encodeWithFNC2"):
+        e = held_to(job, 'points "%s"' % x, P(x), 11 * len(blocks) + 13, shown_row(*blocks), lambda a: plain_answer(a, spaced))
+    entries.append(e)
+examples_table("k", "fnc2Beside", "encode encodeWithFNC2", """
+Labels without ź that are still accepted, by hand, and that document 01's encoder answers alike: the
+code points beside ź, 97 as the check, and 97 as a pair in set C.
+""", entries)
+COUNTS[-1] = ("k", "fnc2Beside", 2 * len(entries))
+
+entries = []
+for first, rest, place, shown in (("À", "", 1, "ź"), ("Ɓ", "", 1, "ź"), ("Ć", "", 1, "")):
+    tried = [P(first) + [c] + P(rest) for c in [*range(SWEPT), *FAR]]
+    assert [label[len(first)] for label in tried if model.encode(ROOM, label) == refuse(19, place)] == P(shown)
+    entries.append("swept %s %s %d (%s)" % (text(P(first)), text(P(rest)), place, 'points "%s"' % shown if shown else "[]"))
+table("k", "fnc2Swept", "Sweep", """
+The code points of `sweeps`, put between two texts: those that are refused 19 at that place, by
+hand. It is ź in sets A and B, and nothing else.
+""", entries, each=SWEPT + len(FAR))
+states("fnc2Swept-hold", "map retires fnc2Swept ≡ map kept fnc2Swept")
+
+reading("fnc2Rows", """
+Rows with 97 in set A or B, 97 as a pair in set C and 97 as the check, by hand: read answers as
+before request 12.
+""", [
+    (rows(104, 97, 98), 2, accept([104, 97])), (rows(104, 97, 98), 1, refuse(5, 2)), (rows(104, 97, 97), 2, refuse(14, 98)), (rows(103, 97, 97), 2, accept([103, 97])),
+    (rows(103, 97, 98), 2, refuse(14, 97)), (rows(105, 97, 99), 2, accept([105, 97])), (rows(105, 97, 97), 2, refuse(14, 99)), (rows(104, 96, 97), 2, accept([104, 96])),
+    (rows(104, 33, 97, 97, 4), 4, accept([104, 33, 97, 97])), (rows(105, 97, 100, 97, 75), 4, accept([105, 97, 100, 97])), (rows(105, 97, 100, 97, 75), 0, refuse(5, 4)),
+    (rows(103, 97, 99, 97, 71), 4, accept([103, 97, 99, 97])), (rows(97, 97, 98), 255, refuse(13, 0)), (rows(104, flip(PATTERNS[97], 3), 98), 255, refuse(16, 1)),
+    (rows(104, 97, 98, stop=flip(STOP, 4)), 255, refuse(15, 37)),
+], group="k")
+
+lists_table("k", "fnc2Lists", """
+Lists with 97 in set A, B or C, with the label that spell writes and the bytes that scan sends, by
+hand from document 01 and requests 1 and 12 of document 02; the row is what the crate writes for
+that label. 97 in set A or B is spelled ź and sends nothing; in set C it is the pair.
+""", [
+    ([105, 97], "Ć97", "97"), ([103, 97, 97], "Àźź", ""), ([104, 33, 97, 33], "ƁAźA", "AA"), ([103, 97, 64], "Àź\x00", "\x00"), ([104, 97, 95], "Ɓź÷", "\x7f"),
+    ([105, 97, 97], "Ć9797", "9797"), ([105, 97, 100, 97], "Ć97Ɓź", "97"), ([105, 97, 101, 97, 65], "Ć97Àź\x01", "97\x01"), ([104, 97, 99, 97], "ƁźĆ97", "97"),
+    ([103, 97, 99, 97, 101, 97], "ÀźĆ97Àź", "97"), ([103, 97, 100, 97, 101, 97], "ÀźƁźÀź", ""), ([104, 97, 65, 101, 97, 65], "ƁźaÀź\x01", "a\x01"),
+    ([105, 102, 97, 102, 100, 97, 102], "ĆŹ97ŹƁźŹ", "97"), ([104, 96, 97, 102, 100], "ƁŻźŹż", ""),
+    # beside Shift, which shifts no 97
+    ([103, 98, 97, 65], "ÀŽź\x01", "\x01"), ([104, 98, 97, 65], "ƁŽźa", "a"), ([103, 97, 98, 65], "ÀźŽ\x01", "a"), ([104, 97, 98, 65, 97], "ƁźŽaź", "\x01"),
+])
+
 # ================================================================ the files
 
 HEAD = '''-- Answers from outside that the definitions in specs/ are held to: from documents 01 and 02 by
@@ -1066,7 +1249,7 @@ use Rattle.helpers.specs.Answers.{if_then_else_, Answer, refuse, accept, number
 use Rattle.paper.specs.Iso15417.{points, check, count, row}
 use Rattle.paper.specs.Crate.{À, Ɓ, Ć, Parsed, symbols, parse}
 use Rattle.paper.specs.Settle.{settle, inside}
-use Rattle.paper.specs.Jobs.{encode, draw, read, spell, scan, pack, unpack}
+use Rattle.paper.specs.Jobs.{encode, encodeWithFNC2, draw, read, spell, scan, pack, unpack}
 use Rattle.paper.specs.Labels.{Label, _⇒_}
 use Rattle.paper.specs.Damage.{redrawn, verdict, flipped, flippedVerdict}
 use Rattle.paper.proofs.Computes.{settle-computes, chars-computes, rules-computes, damage-computes}
@@ -1136,6 +1319,7 @@ infix 15 _spells_scans_draws_
 infix 15 _becomes_
 infix 15 _at_drawn_gives_
 infix 15 _flippedAt_gives_
+infix 15 _firstAt_gives_
 -- a job's input, the number of elements of the lent buffer, and the answer
 pub data Example : Type 0 where
   _into_gives_ : List ℕ → ℕ → Answer → Example
@@ -1156,8 +1340,22 @@ parsedAs (x is s checked c sends b) = (parse (points x), check s, scan (length (
 unfoldable pub printedAs : Published → Parsed × ℕ × Answer
 printedAs (x is s checked c sends b) = (symbols s, c, accept (length (points b)) (points b))
 
+-- a label with ź that the crate accepts, the place of its first ź, and document 01's answer: the
+-- crate's row, or refusal 4 if that row has more than 255 symbols
+pub data WithFNC2 : Type 0 where
+  _firstAt_gives_ : List ℕ → ℕ → Answer → WithFNC2
+
+unfoldable pub answerOf : (ℕ → List ℕ → Answer) → WithFNC2 → Answer
+answerOf job (x firstAt i gives a) = job 2829 x
+
+unfoldable pub ofCrate : WithFNC2 → Answer
+ofCrate (x firstAt i gives a) = a
+
+unfoldable pub retired : WithFNC2 → Answer
+retired (x firstAt i gives a) = refuse 19 i
+
 -- two texts, a place, and those code points in `tried` that are not refused 3 at that place when
--- they are put between the texts
+-- they are put between the texts; or those that are refused 19 there
 pub data Sweep : Type 0 where
   swept : String → String → ℕ → List ℕ → Sweep
 
@@ -1167,6 +1365,9 @@ tried = count 0 512 ++ (0x7FF ∷ 0x800 ∷ 0xD7FF ∷ 0xE000 ∷ 0xFFFF ∷ 0x1
 unfoldable pub passesAt : ℕ → Answer → Bool
 passesAt place a = not (eqb (number a) 3 && eqb (second a) place)
 
+unfoldable pub retiresAt : ℕ → Answer → Bool
+retiresAt place a = eqb (number a) 19 && eqb (second a) place
+
 -- the elements that have a property
 unfoldable pub those : (ℕ → Bool) → List ℕ → List ℕ
 those keeps [] = []
@@ -1174,6 +1375,9 @@ those keeps (c ∷ cs) = (if keeps c then c ∷ [] else []) ++ those keeps cs
 
 unfoldable pub passing : Sweep → List ℕ
 passing (swept first rest place found) = those (λ c. passesAt place (encode 2829 (points first ++ (c ∷ points rest)))) tried
+
+unfoldable pub retires : Sweep → List ℕ
+retires (swept first rest place found) = those (λ c. retiresAt place (encode 2829 (points first ++ (c ∷ points rest)))) tried
 
 unfoldable pub kept : Sweep → List ℕ
 kept (swept first rest place found) = found
@@ -1257,7 +1461,7 @@ use mathlib.Core.List.{map}
 use Rattle.paper.specs.Iso15417.{barCells, cells, count, stop}
 use Rattle.paper.specs.Chars.{chars}
 use Rattle.paper.specs.Rules.{runs}
-use Rattle.paper.specs.Jobs.{encode, draw, read, spell, scan, pack, unpack}
+use Rattle.paper.specs.Jobs.{encode, encodeWithFNC2, draw, read, spell, scan, pack, unpack}
 use Rattle.paper.specs.Labels.{answered, expected}
 %s
 """
@@ -1273,5 +1477,5 @@ if __name__ == "__main__":
         with open(path, "w", encoding="utf-8") as f:
             f.write(body)
     print("\n".join("%s %-18s %d" % c for c in COUNTS))
-    swept = sum(c for _, n, c in COUNTS if n == "sweeps")
+    swept = sum(c for _, n, c in COUNTS if n in ("sweeps", "fnc2Swept"))
     print(sum(c for _, _, c in COUNTS) - swept, "and", swept, "swept")

@@ -1,6 +1,7 @@
-"""The seven jobs of document 01 as requests 1 and 3 of document 02 change them, written from those
-texts alone: not from the crate, nor from specs/. One exception: the Shift of request 1 was written
-with its definition in specs/ at hand, in another form (a look back at the number before).
+"""The seven jobs of document 01 as requests 1, 3 and 12 of document 02 change them, written from
+those texts alone: not from the crate, nor from specs/. One exception: the Shift of request 1 was
+written with its definition in specs/ at hand, in another form (a look back at the number before).
+`encode_with_fnc2` is document 01's encode, before request 12.
 
 Only the bar patterns come from elsewhere: from the crate's `CHARS`, as document 01 says. An answer
 is ("refuse", number, second) or ("accept", second, list). `room` is the number of elements of the
@@ -86,7 +87,11 @@ def parse(points):
     return symbols if digit is None else len(points)
 
 
-def encode(room, points):
+FNC2 = 0x17A
+
+
+def _encode(room, points, retired):
+    """Encode, with refusal 19 at the first code point that is in `retired`."""
     for place, c in enumerate(points):
         if 0xD800 <= c <= 0xDFFF or c > 0x10FFFF:
             return refuse(1, place)
@@ -95,9 +100,20 @@ def encode(room, points):
     symbols = parse(points)
     if isinstance(symbols, int):
         return refuse(3, symbols)
+    for place, c in enumerate(points):
+        if c in retired:
+            return refuse(19, place)
     if len(symbols) > 255:
         return refuse(4, len(symbols))
     return into(room, len(symbols), cells_of(symbols))
+
+
+def encode(room, points):
+    return _encode(room, points, [FNC2])
+
+
+def encode_with_fnc2(room, points):
+    return _encode(room, points, [])
 
 
 def _list(symbols):

@@ -123,14 +123,15 @@ pub fn draw(symbols: &[u8], out: &mut [u8]) -> Answer
     write_row(symbols, out)
 }
 
-// Encode: code points to a row. What parses to its end has passed 1 and 2: each code point with a
-// number is a scalar value, and a START has two bytes.
+// Encode: code points to a row. Refusals 1, 2, 3, 19, 4, 5. What parses to its end has passed 1 and
+// 2: each code point with a number is a scalar value, and a START has two bytes.
 pub fn encode(text: &[u32], out: &mut [u8]) -> Answer
     ensures { λ r. ⌜ Gave (encode (length (now (out .entry))) (now (text .entry))) (numberOf r) (secondOf r) (now (out .entry)) (now (out .exit)) ⌝ }
 {
     let mut list = [0u8; 255];
     match tokens::parse::parse(text, &mut list) {
         Parsed::Stops(place) => tokens::stopped(text, place),
+        Parsed::Retired(place) => Answer::Refused(Refusal::Retired, place),
         Parsed::Symbols(n) => {
             if 255 < n {
                 return Answer::Refused(Refusal::Symbols, n);

@@ -6,7 +6,7 @@ use native.Mathlib.Omega.{arith}
 use lib.Dec.{eqb}
 use Rattle.helpers.specs.Answers.{if_then_else_}
 use Rattle.helpers.specs.declared.Refusal.{Refusal}
-use Rattle.helpers.specs.declared.Refusal.the-variants.{Scalar, Length, Character, Symbols, Room, Size, Cell, Pattern, Place, Check, Stop, Worn, Short, Version, Count, Spare}
+use Rattle.helpers.specs.declared.Refusal.the-variants.{Scalar, Length, Character, Symbols, Room, Size, Cell, Pattern, Place, Check, Stop, Worn, Retired, Short, Version, Count, Spare}
 use Rattle.helpers.specs.declared.Answer.{Answer}
 use Rattle.helpers.specs.declared.Answer.the-variants.{Done, Refused}
 use Rattle.helpers.specs.Numbers.{refusalNumber, numberOf, secondOf}
@@ -16,7 +16,8 @@ refusalOf : ℕ → Refusal
 refusalOf k =
     if eqb k 1 then Scalar else if eqb k 2 then Length else if eqb k 3 then Character else if eqb k 4 then Symbols else if eqb k 5 then Room else
     if eqb k 10 then Size else if eqb k 11 then Cell else if eqb k 12 then Pattern else if eqb k 13 then Place else if eqb k 14 then Check else
-    if eqb k 15 then Stop else if eqb k 16 then Worn else if eqb k 20 then Short else if eqb k 21 then Version else if eqb k 22 then Count else Spare
+    if eqb k 15 then Stop else if eqb k 16 then Worn else if eqb k 19 then Retired else if eqb k 20 then Short else if eqb k 21 then Version else
+    if eqb k 22 then Count else Spare
 
 -- each refusal has a number of its own, and none has 0
 back : (r : Refusal) → (refusalOf (refusalNumber r) ≡ r) × (1 ≤ refusalNumber r)
@@ -33,6 +34,7 @@ back Place = (refl, omega arith)
 back Check = (refl, omega arith)
 back Stop = (refl, omega arith)
 back Worn = (refl, omega arith)
+back Retired = (refl, omega arith)
 back Short = (refl, omega arith)
 back Version = (refl, omega arith)
 back Count = (refl, omega arith)

@@ -1,9 +1,9 @@
--- Document 01's numbers, and 16 of document 02's request 3, for the cases of the code's `Answer`:
--- "An answer may be an enum. If so, a definition gives this paper's number and values for each of
--- the enum's cases". Assumes nothing.
+-- Document 01's numbers, and 16 and 19 of document 02's requests 3 and 12, for the cases of the
+-- code's `Answer`: "An answer may be an enum. If so, a definition gives this paper's number and
+-- values for each of the enum's cases". Assumes nothing.
 use Rattle.helpers.specs.Prelude.{ℕ}
 use Rattle.helpers.specs.declared.Refusal.{Refusal}
-use Rattle.helpers.specs.declared.Refusal.the-variants.{Scalar, Length, Character, Symbols, Room, Size, Cell, Pattern, Place, Check, Stop, Worn, Short, Version, Count, Spare}
+use Rattle.helpers.specs.declared.Refusal.the-variants.{Scalar, Length, Character, Symbols, Room, Size, Cell, Pattern, Place, Check, Stop, Worn, Retired, Short, Version, Count, Spare}
 use Rattle.helpers.specs.declared.Answer.{Answer}
 use Rattle.helpers.specs.declared.Answer.the-variants.{Done, Refused}
 
@@ -21,6 +21,7 @@ refusalNumber Place = 13
 refusalNumber Check = 14
 refusalNumber Stop = 15
 refusalNumber Worn = 16
+refusalNumber Retired = 19
 refusalNumber Short = 20
 refusalNumber Version = 21
 refusalNumber Count = 22

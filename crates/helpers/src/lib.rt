@@ -32,6 +32,8 @@ pub enum Refusal {
     Stop,
     // 16: a block that is none of the 106 patterns and has an odd number of bar cells.
     Worn,
+    // 19: ź, which is FNC2 and retired.
+    Retired,
     // 20: a record under two bytes.
     Short,
     // 21: another version.
@@ -66,6 +68,7 @@ impl Refusal {
             Refusal::Check => 14,
             Refusal::Stop => 15,
             Refusal::Worn => 16,
+            Refusal::Retired => 19,
             Refusal::Short => 20,
             Refusal::Version => 21,
             Refusal::Count => 22,

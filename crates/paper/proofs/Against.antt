@@ -5,14 +5,15 @@ use mathlib.Core.List.{map}
 use Rattle.paper.specs.Iso15417.{barCells, cells, count, stop}
 use Rattle.paper.specs.Chars.{chars}
 use Rattle.paper.specs.Rules.{runs}
-use Rattle.paper.specs.Jobs.{encode, draw, read, spell, scan, pack, unpack}
+use Rattle.paper.specs.Jobs.{encode, encodeWithFNC2, draw, read, spell, scan, pack, unpack}
 use Rattle.paper.specs.Labels.{answered, expected}
-use Rattle.paper.proofs.Examples.{examples-computes, elevens, joined, asked, given, parsedAs, printedAs, passing, kept, threeJobs, threeAnswers, settles}
-use Rattle.paper.proofs.Examples.{settled, ruled, twice, flips, thrice, called, left, unstarred, unstarredRecords, longest, order, published}
-use Rattle.paper.proofs.Examples.{publishedRows, crateChars, crateStop, crateWidths, crateBars, everyNumber, everySwitch, everyFunction, everyPair}
-use Rattle.paper.proofs.Examples.{foreignDigits, firstPoints, documented, randomly, randomlyWrong, checksOn, sweeps, readBack, readLengths, readBlocks}
-use Rattle.paper.proofs.Examples.{readWorn, readStops, readChecks, readLong, lists, badLists, drawShort, spellShort, scanShort, shiftEach, shiftBefore}
-use Rattle.paper.proofs.Examples.{shifting, packings, unpackings, settling, buffers, redrawings, flippings}
+use Rattle.paper.proofs.Examples.{examples-computes, elevens, joined, asked, given, parsedAs, printedAs, answerOf, ofCrate, retired, passing, retires}
+use Rattle.paper.proofs.Examples.{kept, threeJobs, threeAnswers, settles, settled, ruled, twice, flips, thrice, called, left, unstarred, unstarredRecords}
+use Rattle.paper.proofs.Examples.{longest, order, published, publishedRows, crateChars, crateStop, crateWidths, crateBars, everyNumber, everySwitch}
+use Rattle.paper.proofs.Examples.{everyFunction, everyPair, foreignDigits, firstPoints, documented, randomly, randomlyWrong, checksOn, withFNC2, sweeps}
+use Rattle.paper.proofs.Examples.{readBack, readLengths, readBlocks, readWorn, readStops, readChecks, readLong, lists, badLists, drawShort, spellShort}
+use Rattle.paper.proofs.Examples.{scanShort, shiftEach, shiftBefore, shifting, packings, unpackings, settling, buffers, redrawings, flippings}
+use Rattle.paper.proofs.Examples.{fnc2Refused, fnc2Before, fnc2Beside, fnc2Swept, fnc2Rows, fnc2Lists}
 
 pub unstarred-hold : map (asked encode) unstarred ≡ map given unstarred
 unfolding examples-computes
@@ -97,6 +98,14 @@ randomlyWrong-hold = refl
 pub checksOn-hold : answered checksOn ≡ expected checksOn
 unfolding examples-computes answered expected
 checksOn-hold = refl
+
+pub withFNC2-before : map (answerOf encodeWithFNC2) withFNC2 ≡ map ofCrate withFNC2
+unfolding examples-computes
+withFNC2-before = refl
+
+pub withFNC2-hold : map (answerOf encode) withFNC2 ≡ map retired withFNC2
+unfolding examples-computes
+withFNC2-hold = refl
 
 pub sweeps-hold : map passing sweeps ≡ map kept sweeps
 unfolding examples-computes
@@ -193,3 +202,31 @@ redrawings-hold = refl
 pub flippings-hold : map flips flippings ≡ map thrice flippings
 unfolding examples-computes
 flippings-hold = refl
+
+pub fnc2Refused-hold : map (asked encode) fnc2Refused ≡ map given fnc2Refused
+unfolding examples-computes
+fnc2Refused-hold = refl
+
+pub fnc2Before-hold : map (asked encodeWithFNC2) fnc2Before ≡ map given fnc2Before
+unfolding examples-computes
+fnc2Before-hold = refl
+
+pub fnc2Beside-of-encode : map (asked encode) fnc2Beside ≡ map given fnc2Beside
+unfolding examples-computes
+fnc2Beside-of-encode = refl
+
+pub fnc2Beside-of-encodeWithFNC2 : map (asked encodeWithFNC2) fnc2Beside ≡ map given fnc2Beside
+unfolding examples-computes
+fnc2Beside-of-encodeWithFNC2 = refl
+
+pub fnc2Swept-hold : map retires fnc2Swept ≡ map kept fnc2Swept
+unfolding examples-computes
+fnc2Swept-hold = refl
+
+pub fnc2Rows-hold : map (asked read) fnc2Rows ≡ map given fnc2Rows
+unfolding examples-computes
+fnc2Rows-hold = refl
+
+pub fnc2Lists-hold : map threeJobs fnc2Lists ≡ map threeAnswers fnc2Lists
+unfolding examples-computes
+fnc2Lists-hold = refl

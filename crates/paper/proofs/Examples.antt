@@ -15,7 +15,7 @@ use Rattle.helpers.specs.Answers.{if_then_else_, Answer, refuse, accept, number
 use Rattle.paper.specs.Iso15417.{points, check, count, row}
 use Rattle.paper.specs.Crate.{À, Ɓ, Ć, Parsed, symbols, parse}
 use Rattle.paper.specs.Settle.{settle, inside}
-use Rattle.paper.specs.Jobs.{encode, draw, read, spell, scan, pack, unpack}
+use Rattle.paper.specs.Jobs.{encode, encodeWithFNC2, draw, read, spell, scan, pack, unpack}
 use Rattle.paper.specs.Labels.{Label, _⇒_}
 use Rattle.paper.specs.Damage.{redrawn, verdict, flipped, flippedVerdict}
 use Rattle.paper.proofs.Computes.{settle-computes, chars-computes, rules-computes, damage-computes}
@@ -85,6 +85,7 @@ infix 15 _spells_scans_draws_
 infix 15 _becomes_
 infix 15 _at_drawn_gives_
 infix 15 _flippedAt_gives_
+infix 15 _firstAt_gives_
 -- a job's input, the number of elements of the lent buffer, and the answer
 pub data Example : Type 0 where
   _into_gives_ : List ℕ → ℕ → Answer → Example
@@ -105,8 +106,22 @@ parsedAs (x is s checked c sends b) = (parse (points x), check s, scan (length (
 unfoldable pub printedAs : Published → Parsed × ℕ × Answer
 printedAs (x is s checked c sends b) = (symbols s, c, accept (length (points b)) (points b))
 
+-- a label with ź that the crate accepts, the place of its first ź, and document 01's answer: the
+-- crate's row, or refusal 4 if that row has more than 255 symbols
+pub data WithFNC2 : Type 0 where
+  _firstAt_gives_ : List ℕ → ℕ → Answer → WithFNC2
+
+unfoldable pub answerOf : (ℕ → List ℕ → Answer) → WithFNC2 → Answer
+answerOf job (x firstAt i gives a) = job 2829 x
+
+unfoldable pub ofCrate : WithFNC2 → Answer
+ofCrate (x firstAt i gives a) = a
+
+unfoldable pub retired : WithFNC2 → Answer
+retired (x firstAt i gives a) = refuse 19 i
+
 -- two texts, a place, and those code points in `tried` that are not refused 3 at that place when
--- they are put between the texts
+-- they are put between the texts; or those that are refused 19 there
 pub data Sweep : Type 0 where
   swept : String → String → ℕ → List ℕ → Sweep
 
@@ -116,6 +131,9 @@ tried = count 0 512 ++ (0x7FF ∷ 0x800 ∷ 0xD7FF ∷ 0xE000 ∷ 0xFFFF ∷ 0x1
 unfoldable pub passesAt : ℕ → Answer → Bool
 passesAt place a = not (eqb (number a) 3 && eqb (second a) place)
 
+unfoldable pub retiresAt : ℕ → Answer → Bool
+retiresAt place a = eqb (number a) 19 && eqb (second a) place
+
 -- the elements that have a property
 unfoldable pub those : (ℕ → Bool) → List ℕ → List ℕ
 those keeps [] = []
@@ -123,6 +141,9 @@ those keeps (c ∷ cs) = (if keeps c then c ∷ [] else []) ++ those keeps cs
 
 unfoldable pub passing : Sweep → List ℕ
 passing (swept first rest place found) = those (λ c. passesAt place (encode 2829 (points first ++ (c ∷ points rest)))) tried
+
+unfoldable pub retires : Sweep → List ℕ
+retires (swept first rest place found) = those (λ c. retiresAt place (encode 2829 (points first ++ (c ∷ points rest)))) tried
 
 unfoldable pub kept : Sweep → List ℕ
 kept (swept first rest place found) = found
@@ -262,7 +283,8 @@ publishedRows =
 -- the longest prefix of the label that the crate accepts with some ending, and each prefix was
 -- tried with these endings: none, À, 0, 00, Ź0, A, a. The crate cannot be asked about D800..DFFF
 -- and above 10FFFF, which are no Rust chars, nor about the length of a buffer; and it has no upper
--- limit.
+-- limit. The labels with ź that the crate accepts, and that encode refuses by request 12 of
+-- document 02, stand in `withFNC2`.
 
 -- `CHARS`, all 1,166 cells as they stand in the crate's source
 unfoldable pub crateChars : List ℕ
@@ -290,7 +312,7 @@ crateWidths =
 unfoldable pub crateBars : List ℕ
 crateBars = cellsOf "6664444444446666666666686666666664444444446666668666686666668464444444444444484666666666688866666668888446"
 
--- every number of each set, but for the switches
+-- every number of each set, but for the switches and FNC2
 unfoldable pub everyNumber : List Label
 everyNumber =
     ("À !\"#$%&'()*+,-./0123456789:;<=>?" ⇒ accepted 33 "D09B3336666931232264C898919324644C496726E4CEB993B273672CB993B72674EDDD3396726EC9CD3996D8D8DEA31D6") ∷
@@ -298,11 +320,11 @@ everyNumber =
     ("À\0\u{1}\u{2}\u{3}\u{4}\u{5}\u{6}\u{7}\u{8}\t\n\u{b}\u{c}\r\u{e}\u{f}" ⇒ accepted 17 "D094325848685909AC85849A130A1A432C25943DD6148F50D31D6") ∷
     ("À\u{10}\u{11}\u{12}\u{13}\u{14}\u{15}\u{16}\u{17}\u{18}\u{19}\u{1a}\u{1b}\u{1c}\u{1d}\u{1e}\u{1f}"
     ⇒ accepted 17 "D094F25E49EBC93D2797A4F29E4B6F6F6F6D5E28F45EBD1E931D6") ∷
-    ("ÀŻźŽżŹ" ⇒ accepted 6 "D0978BD47A2EBDEBB8B63AC") ∷
+    ("ÀŻŽżŹ" ⇒ accepted 5 "D0978BD175EF5D9431D6") ∷
     ("Ɓ !\"#$%&'()*+,-./0123456789:;<=>?" ⇒ accepted 33 "D21B3336666931232264C898919324644C496726E4CEB993B273672CB993B72674EDDD3396726EC9CD3996D8D8DE8B1D6") ∷
     ("Ɓ@ABCDEFGHIJKLMNOPQRSTUVWXYZ[\\]^_" ⇒ accepted 33 "D218DA8C45888D62234462D118A3115B8B1D1BAEC5C68EDDDB4762EDD1B8B77758E8DC5BB4762E35DEB2178AA61EBB1D6") ∷
     ("Ɓ`abcdefghijklmnopqrstuvwxyz{|}~÷" ⇒ accepted 33 "D214325848685909AC85849A130A1A432C25943DD6148F54F25E49EBC93D2797A4F29E4B6F6F6F6D5E28F45EBD12631D6") ∷
-    ("ƁŻźŽżŹ" ⇒ accepted 6 "D2178BD47A2BDDEBB7763AC") ∷
+    ("ƁŻŽżŹ" ⇒ accepted 5 "D2178BD15EEF5D0CB1D6") ∷
     ("Ć00010203040506070809101112131415161718192021222324" ⇒ accepted 26 "D39B3336666931232264C898919324644C496726E4CEB993B273672CB993B72674EDDD337163AC") ∷
     ("Ć25262728293031323334353637383940414243444546474849" ⇒ accepted 26 "D39CB393764E69CCB6C6C6C6D4622C446B111A231688C5188ADC58E8DD762E3476EEDA3B1463AC") ∷
     ("Ć50515253545556575859606162636465666768697071727374" ⇒ accepted 26 "D398BB746E2DDDD63A3716ED1D8B8D77AC85E2A9850C96121A16426B21612684C28690CB9A63AC") ∷
@@ -324,15 +346,15 @@ everySwitch =
     ("ÀĆ1Ć" ⇒ refuse 3 3) ∷ ("Ć1À" ⇒ refuse 3 2) ∷ ("Ć1Ɓ" ⇒ refuse 3 2) ∷ ("Ć1Ć" ⇒ refuse 3 2) ∷ ("Ć123À" ⇒ refuse 3 4) ∷ ("Ć123Ɓ4" ⇒ refuse 3 4) ∷
     ("ÀƁ\u{1f}" ⇒ refuse 3 2) ∷ ("ƁÀa" ⇒ refuse 3 2) ∷ ("ÀĆA" ⇒ refuse 3 2) ∷ ("ĆÀa" ⇒ refuse 3 2) ∷ ("ĆƁ\n" ⇒ refuse 3 2) ∷ []
 
--- Shift and the function symbols in every set: in encode Ž shifts nothing, and set C has Ź alone
+-- Shift and the function symbols in every set, without FNC2 in sets A and B: in encode Ž shifts
+-- nothing, and set C has Ź alone
 unfoldable pub everyFunction : List Label
 everyFunction =
-    ("ÀŽ" ⇒ accepted 2 "D09E8BD163AC") ∷ ("Àż" ⇒ accepted 2 "D09D7BAF63AC") ∷ ("Àź" ⇒ accepted 2 "D09EA3D463AC") ∷ ("ÀŻ" ⇒ accepted 2 "D0978AF163AC") ∷
-    ("ÀŹ" ⇒ accepted 2 "D09EBBD763AC") ∷ ("ƁŽ" ⇒ accepted 2 "D21E8AEF63AC") ∷ ("Ɓż" ⇒ accepted 2 "D217BBAF63AC") ∷ ("Ɓź" ⇒ accepted 2 "D21EA3D163AC") ∷
-    ("ƁŻ" ⇒ accepted 2 "D2178BD463AC") ∷ ("ƁŹ" ⇒ accepted 2 "D21EBB6663AC") ∷ ("ĆŽ" ⇒ refuse 3 1) ∷ ("Ćż" ⇒ refuse 3 1) ∷ ("Ćź" ⇒ refuse 3 1) ∷
-    ("ĆŻ" ⇒ refuse 3 1) ∷ ("ĆŹ" ⇒ accepted 2 "D39EBB3663AC") ∷ ("ÀŽa" ⇒ refuse 3 2) ∷ ("ÀŽ\u{1}" ⇒ accepted 3 "D09E8A58674C758") ∷ ("ƁŽ\u{1}" ⇒ refuse 3 2) ∷
-    ("ƁŽa" ⇒ accepted 3 "D21E8A5876EC758") ∷ ("ƁŽA" ⇒ accepted 3 "D21E8A8C78AC758") ∷ ("ÀŽŽ" ⇒ accepted 3 "D09E8BD1792C758") ∷
-    ("ÀżA" ⇒ accepted 3 "D09D7A8C50CC758") ∷ ("Ɓż€" ⇒ refuse 3 2) ∷ ("ƁźŻżŹ" ⇒ accepted 5 "D21EA2F15EEF5D3431D6") ∷ ("ĆŹŹŹ" ⇒ accepted 4 "D39EBBD77AEBBD8EB") ∷
+    ("ÀŽ" ⇒ accepted 2 "D09E8BD163AC") ∷ ("Àż" ⇒ accepted 2 "D09D7BAF63AC") ∷ ("ÀŻ" ⇒ accepted 2 "D0978AF163AC") ∷ ("ÀŹ" ⇒ accepted 2 "D09EBBD763AC") ∷
+    ("ƁŽ" ⇒ accepted 2 "D21E8AEF63AC") ∷ ("Ɓż" ⇒ accepted 2 "D217BBAF63AC") ∷ ("ƁŻ" ⇒ accepted 2 "D2178BD463AC") ∷ ("ƁŹ" ⇒ accepted 2 "D21EBB6663AC") ∷
+    ("ĆŽ" ⇒ refuse 3 1) ∷ ("Ćż" ⇒ refuse 3 1) ∷ ("Ćź" ⇒ refuse 3 1) ∷ ("ĆŻ" ⇒ refuse 3 1) ∷ ("ĆŹ" ⇒ accepted 2 "D39EBB3663AC") ∷ ("ÀŽa" ⇒ refuse 3 2) ∷
+    ("ÀŽ\u{1}" ⇒ accepted 3 "D09E8A58674C758") ∷ ("ƁŽ\u{1}" ⇒ refuse 3 2) ∷ ("ƁŽa" ⇒ accepted 3 "D21E8A5876EC758") ∷ ("ƁŽA" ⇒ accepted 3 "D21E8A8C78AC758") ∷
+    ("ÀŽŽ" ⇒ accepted 3 "D09E8BD1792C758") ∷ ("ÀżA" ⇒ accepted 3 "D09D7A8C50CC758") ∷ ("Ɓż€" ⇒ refuse 3 2) ∷ ("ĆŹŹŹ" ⇒ accepted 4 "D39EBBD77AEBBD8EB") ∷
     ("Ć12Ž" ⇒ refuse 3 3) ∷ ("Ć1Ž2" ⇒ refuse 3 2) ∷ ("Ć1ż2" ⇒ refuse 3 2) ∷ ("Ć1ź2" ⇒ refuse 3 2) ∷ ("Ć1Ż2" ⇒ refuse 3 2) ∷ ("ĆƁŽ" ⇒ accepted 3 "D397BBD1578C758") ∷
     ("ĆÀż" ⇒ accepted 3 "D39D7BAF5DEC758") ∷ ("ÀĆŽ" ⇒ refuse 3 2) ∷ ("ƁĆż" ⇒ refuse 3 2) ∷ []
 
@@ -387,46 +409,46 @@ documented =
     ("ĆŹ0012345678901234567890" ⇒ accepted 13 "D39EBB6659C8B1C5B0A6F6B391638B614DED9D31D6") ∷
     ("ĆŹ0109501101530003Ɓ" ⇒ accepted 11 "D39EBB36648C5D893366EED99262F7622C758") ∷ ("Ɓ-Rattle 0.1-" ⇒ accepted 13 "D21373174B09E93D328590D993B2674E69B9C5B1D6") ∷ []
 
--- one random label of each length from 2 to 40
+-- one random label without ź of each length from 2 to 40
 unfoldable pub randomly : List Label
 randomly =
     ("ÀŻ" ⇒ accepted 2 "D0978AF163AC") ∷ ("À\u{8}\u{1a}" ⇒ accepted 3 "D0930B7B5C6C758") ∷ ("Ɓ6ż5" ⇒ accepted 4 "D219D2F76E4A798EB") ∷
-    ("Ɓ$ź3&" ⇒ accepted 5 "D21233D465C9910CB1D6") ∷ ("ĆƁ<UJ'" ⇒ accepted 6 "D397BB9A6EEB713122663AC") ∷ ("Àź9Ɓ#D3" ⇒ accepted 7 "D09EA3965EE9316232E636C758") ∷
+    ("Ɓ$Ż3&" ⇒ accepted 5 "D21232F165C99130B1D6") ∷ ("ĆƁ<UJ'" ⇒ accepted 6 "D397BB9A6EEB713122663AC") ∷ ("ÀŻ9Ɓ#D3" ⇒ accepted 7 "D0978B965EE9316232E6C6C758") ∷
     ("Ć1Ź18Ź0Ź" ⇒ accepted 6 "D39EBB127AEA79EBB9363AC") ∷ ("ƁŻ<AÀƁOŻ^" ⇒ accepted 9 "D2178B9A518EBD7BA3B5E2F15B1B1D6") ∷
-    ("À!V\u{1c}ŹG;G-\t" ⇒ accepted 10 "D099B3AC578F5DA23B26889B90D37263AC") ∷ ("ƁŽŻ,= ÷(÷źŻ" ⇒ accepted 11 "D21E8AF159CE65B32F4464BD1EA2F1768C758") ∷
-    ("À^ź\u{1b}ŽŹŻżHFƁ[" ⇒ accepted 12 "D09E2BD47B6F45EBAF175EC5118AF771A9798EB") ∷ ("ƁĆ03ÀźƁtż3[e^" ⇒ accepted 12 "D2177A4C75EF517BA7A5EECB9C6AC878AE998EB") ∷
+    ("À!V\u{1c}ŹG;G-\t" ⇒ accepted 10 "D099B3AC578F5DA23B26889B90D37263AC") ∷ ("ƁŽŻ,= ÷(÷ŻŻ" ⇒ accepted 11 "D21E8AF159CE65B32F4464BD178AF1776C758") ∷
+    ("À^Ż\u{1b}ŽŹŻżHFƁ[" ⇒ accepted 12 "D09E2AF17B6F45EBAF175EC5118AF771A8F58EB") ∷ ("ƁĆ03ÀŻƁtż3[e^" ⇒ accepted 12 "D2177A4C75EBC57BA7A5EECB9C6AC878AC9D8EB") ∷
     ("Ć64968229Ź02À?" ⇒ accepted 9 "D39432F149EE65EBB3375ED8D1A31D6") ∷
     ("ĆƁ÷&,ŻÀ)\u{16}\u{e}\u{b}1\u{3}ƁŻ" ⇒ accepted 15 "D397BAF44C8B3978BAF648F49853094E68597BAF14C2C758") ∷
-    ("À&ź'#\u{5}%źŽ\u{5}\u{f}\u{2}5Ć49" ⇒ accepted 15 "D09323D44C4931642267A8F456423D486DC977B47476C758") ∷
+    ("À&Ż'#\u{5}%ŻŽ\u{5}\u{f}\u{2}5Ć49" ⇒ accepted 15 "D09322F14C4931642265E2F456423D486DC977B47462C758") ∷
     ("ÀŻ\u{1b}I\n70\rĆŹÀ\u{1d}:Y%ŽƁ" ⇒ accepted 17 "D0978BDB622865DBA767BABBDEBBAF51EE4DDA2267A2BDD9131D6") ∷
     ("ƁŻŹ$G\"ŻcŻxŻlŻ÷32żt" ⇒ accepted 18 "D2178BD748CD1199AF142CBC5E4AF1650BC57A32E672BDD3D27663AC") ∷
     ("Ć986Ź51Ź323ŹŹ562820" ⇒ accepted 12 "D39E8BD74B0F5D373B77AEF5DC5B9A64ED118EB") ∷
     ("Ć7Ź73Ź247590560À\u{1a}QƁŹ" ⇒ accepted 14 "D39EBBDD7AEC6D1DB8D44CEF5D7B7B68EBDDEBB0A63AC") ∷
-    ("Ć1Ź6ÀŽ\u{11}>\u{3}ŻƁŹ÷ŽźĆ1Ź7ÀŻ" ⇒ accepted 19 "D39EBA7675EF452F36C42CBC57BBD75E8F45EA2EF7AE9CDD7AF178AC758") ∷
+    ("Ć1Ź6ÀŽ\u{11}>\u{3}ŻƁŹ÷ŽŻĆ1Ź7ÀŻ" ⇒ accepted 19 "D39EBA7675EF452F36C42CBC57BBD75E8F4578AEF7AE9CDD7AF168EC758") ∷
     ("Ɓ?Ź?y7Jl÷;(%\\÷zŻŹ0÷À7\u{14}" ⇒ accepted 22 "D21B1BD76C6DBDDBADC650BD1D923244CEF57A37B5E2F5D3B2F475EEDD3D2F163AC") ∷
-    ("Ɓ&ŹgŻ/hÀ\u{19}\u{15}%\u{6}Ž\u{10}Vź?*Ɓź#>÷" ⇒ accepted 23 "D21323D74D0BC57326175EDBD3CA26584F454F3AC7A8D8D912F77A8931B62F4650C758") ∷
-    ("ÀŽ/Y-ż\u{13}OV\u{1a}źSUF\u{19}ź\u{14}Ž>Ć96ƁL" ⇒ accepted 23 "D09E8AE67689B9D7AF2476EB1BDBD46E8DDD18B6F7A89E9E8B6C5DEBC57BA37530C758") ∷
-    ("ƁŻ1÷jżź!vż7TÀ\u{7}*\u{3}UO\u{1e}#Ć4Ź5Ź" ⇒ accepted 24 "D2178A735E88657BBD466CF497BBB76E2EBD3432242CDDD1DA2F498BBDEBAEC7AE8BD8EB") ∷
+    ("Ɓ&ŹgŻ/hÀ\u{19}\u{15}%\u{6}Ž\u{10}VŻ?*ƁŻ#>÷" ⇒ accepted 23 "D21323D74D0BC57326175EDBD3CA26584F454F3AC5E2D8D912F75E2931B62F45B8C758") ∷
+    ("ÀŽ/Y-ż\u{13}OV\u{1a}ŻSUF\u{19}Ż\u{14}Ž>Ć96ƁL" ⇒ accepted 23 "D09E8AE67689B9D7AF2476EB1BDAF16E8DDD18B6F5E29E9E8B6C5DEBC57BA37462C758") ∷
+    ("ƁŻ1÷jżŻ!vż7TÀ\u{7}*\u{3}UO\u{1e}#Ć4Ź5Ź" ⇒ accepted 24 "D2178A735E88657BAF166CF497BBB76E2EBD3432242CDDD1DA2F498BBDEBAEC7AEF258EB") ∷
     ("À8ŹĆ910158À\u{19}7ż\u{e}ŽĆ2Ź50Ź827À" ⇒ accepted 20 "D09D33D75DEF6D9B3B175EDBDDBBAF614F4577BD772CF5D193B275E8BD8EB") ∷
-    ("ÀźFT2*^\u{e}6\u{16}\rŻCOD\u{10}Ź\u{b}\u{13}XT\u{16}Ɓd^ÀŻ" ⇒ accepted 27 "D09EA2316E2CE5913C5614CE9E93DD5E288D1DAC453CF5D84AF2716DC5E92F7426F15D7AF176EC758") ∷
-    ("Ɓ}Ź÷$Źż'qHhŽS I1Ź0Ou%:Vźwul-" ⇒ accepted 28 "D2147BD75E8919EBAF74C49798A2617A2DD1B33114E6F5D3B23B4F2899C9BAC7A8F293CB284DC90D8EB") ∷
+    ("ÀŻFT2*^\u{e}6\u{16}\rŻCOD\u{10}Ź\u{b}\u{13}XT\u{16}Ɓd^ÀŻ" ⇒ accepted 27 "D0978A316E2CE5913C5614CE9E93DD5E288D1DAC453CF5D84AF2716DC5E92F7426F15D7AF1674C758") ∷
+    ("Ɓ}Ź÷$Źż'qHhŽS I1Ź0Ou%:VŻwul-" ⇒ accepted 28 "D2147BD75E8919EBAF74C49798A2617A2DD1B33114E6F5D3B23B4F2899C9BAC5E2F293CB284DCB1D8EB") ∷
     ("Ć11686Ź35ŹŹ26851ÀIQƁQ[tZŹŽrN÷" ⇒ accepted 23 "D39892137AEA61EBBD76E284DBA3AF622D1D7BB4771A9E9D8BD77A293D71AF445EC758") ∷
-    ("Ć51987Ź9Ɓź82`Żcźl~|)ż143ŽŻŽ÷'A" ⇒ accepted 27 "D39BA3D17AE8F57BBD474CCE5432F142CF519422F578C917BA7364ECB9E8AF17A2BD13128C45EC758") ∷
-    ("Ć63754389Ź53849Ź5À]\u{1f}M\u{6}\u{15}żź88Ɓż7ż" ⇒ accepted 24 "D394C30958EDBDEBB774F4F5D7A3AF642BD1762C24F2EBDEA3A674CBDD7BBB75EEC898EB") ∷
-    ("ÀQ?Žź8\"\u{1f}\"żM:_\u{f})Ɓc |%ÀƁWV÷÷6fCy&)" ⇒ accepted 32 "D09A3B637A2F51D33335E8CCDD7AEC726A611EB245EE859B32BC44CEBD7BBA3758BD17A33A58488DB7A64648D998EB") ∷
+    ("Ć51987Ź9ƁŻ82`ŻcŻl~|)ż143ŽŻŽ÷'A" ⇒ accepted 27 "D39BA3D17AE8F57BAF174CCE5432F142CBC59422F578C917BA7364ECB9E8AF17A2BD13128C650C758") ∷
+    ("Ć63754389Ź53849Ź5À]\u{1f}M\u{6}\u{15}żŻ88Ɓż7ż" ⇒ accepted 24 "D394C30958EDBDEBB774F4F5D7A3AF642BD1762C24F2EBD78BA674CBDD7BBB75EEBC58EB") ∷
+    ("ÀQ?ŽŻ8\"\u{1f}\"żM:_\u{f})Ɓc |%ÀƁWV÷÷6fCy&)" ⇒ accepted 32 "D09A3B637A2BC5D33335E8CCDD7AEC726A611EB245EE859B32BC44CEBD7BBA3758BD17A33A58488DB7A64648BBD8EB") ∷
     ("ƁżŹfpoĆ213Ź274ÀH\u{6}Ž\u{1d}&H1(NĆ55426816" ⇒ accepted 26 "D217BBD7584A791EAEF6E4F5D8DA1975EC51613D151E9918A273464B8D77BA35B884D3B26763AC") ∷
-    ("ÀZŹ\u{8}?Ɓ~cżWźŻQgź÷ż%tPuŻsgŻż'ź-TbŻ8{"
-    ⇒ accepted 34 "D09D8BD74C2D8D7BA2F42CBDDD1BD45E2D1D343D45E8BDD1327A7769E578AF24D0BC57BA627A89B9B8A435E2E99EDBD163AC") ∷
-    ("À\u{6}BŹŽ\u{13}CźEI\u{1a}\rŻ#2\"%\u{3}O^źĆ0893À6+ŹƁzÀWK"
-    ⇒ accepted 33 "D096122C7AEF45792237A88D188B7B7BABC5263396668990B23B78AF5177A3251EEBD9D3127AEBDDBDBAF746B1D0CB1D6") ∷
+    ("ÀZŹ\u{8}?Ɓ~cżWŻŻQgŻ÷ż%tPuŻsgŻż'Ż-TbŻ8{"
+    ⇒ accepted 34 "D09D8BD74C2D8D7BA2F42CBDDD1AF15E2D1D342F15E8BDD1327A7769E578AF24D0BC57BA625E29B9B8A435E2E99EDA3B63AC") ∷
+    ("À\u{6}BŹŽ\u{13}CŻEI\u{1a}\rŻ#2\"%\u{3}O^ŻĆ0893À6+ŹƁzÀWK"
+    ⇒ accepted 33 "D096122C7AEF45792235E28D188B7B7BABC5263396668990B23B78ABC577A3251EEBD9D3127AEBDDBDBAF746B1D1DB1D6") ∷
     ("Ć5845783994023167Ź8Ź1604Ź45Ź9Ɓ|4<+nŻ" ⇒ accepted 24 "D39D8AEC614D1117B336C6859EBBD74BCEF5EBA377AEE357BABC64EE698930A5E2A618EB") ∷
     ("Ć1527Ź269Ź7197273ƁK}a|`)gŻYV:~ŹŹŹQx 3" ⇒ accepted 30 "D39733B27AEE4DEBBD465C9850D2F758EA3D2C2BC50CC91342F1768EB1C9A2F7AEF5DEBB47792D999726463AC") ∷
-    ("Ɓźs:Ź5{źJ`Yn@u;Ž3YŻ/r-mKyź_S3ŽkTA~O/Y]"
-    ⇒ accepted 38 "D21EA2F2726F5DB93DB7A8B71433B4614C6D3CBB27A2CB9DA2F15CC93D373DD58EDBDEA2986E8CB9E8B096E2A3117A3B5CCED190A3B63AC") ∷
-    ("ƁYE)`ŹAl&bVĆ1348ŹÀ\u{1b}6ŻŽźź\u{18}ƁÀI\u{19}8ŹŻƁ``'Fa9"
-    ⇒ accepted 37 "D21DA234648A19EBA8C65099121BAC5DE9B9DDBD775EF6D9D2F17A2F51EA3C95EEEBD88B6F74CF5D78AF750CA19312314B0E59B8B1D6") ∷
-    ("ƁźWŽ>+(}-4B1T*8À\u{c}Y\tƁÀŻ#źR,Ż[\u{8}\u{f}\u{1}\u{14}\u{17}ź\u{3}@\u{14} \u{3}\n"
-    ⇒ accepted 40 "D21EA3A37A2DB18923251E9B993A2C4E6DC5913A675ECA1DA21A5EEEBD78A4C7A8C5D672F171A9851EA584F4F29EA2166369E9B32164328BD8EB") ∷ []
+    ("ƁŻs:Ź5{ŻJ`Yn@u;Ž3YŻ/r-mKyŻ_S3ŽkTA~O/Y]"
+    ⇒ accepted 38 "D2178AF2726F5DB93DB5E2B71433B4614C6D3CBB27A2CB9DA2F15CC93D373DD58EDBD78A986E8CB9E8B096E2A3117A3B5CCED190A6763AC") ∷
+    ("ƁYE)`ŹAl&bVĆ1348ŹÀ\u{1b}6ŻŽŻŻ\u{18}ƁÀI\u{19}8ŹŻƁ``'Fa9"
+    ⇒ accepted 37 "D21DA234648A19EBA8C65099121BAC5DE9B9DDBD775EF6D9D2F17A2BC578BC95EEEBD88B6F74CF5D78AF750CA19312314B0E598931D6") ∷
+    ("ƁŻWŽ>+(}-4B1T*8À\u{c}Y\tƁÀŻ#ŻR,Ż[\u{8}\u{f}\u{1}\u{14}\u{17}Ż\u{3}@\u{14} \u{3}\n"
+    ⇒ accepted 40 "D2178BA37A2DB18923251E9B993A2C4E6DC5913A675ECA1DA21A5EEEBD78A4C5E2C5D672F171A9851EA584F4F2978A166369E9B32164328D18EB") ∷ []
 
 -- random labels with one code point changed, so that they are refused
 unfoldable pub randomlyWrong : List Label
@@ -440,20 +462,71 @@ randomlyWrong =
     ("ÀŹĆ\"/ż\u{13}" ⇒ refuse 3 3) ∷ ("ÀŹ\u{1b}N\0ƁćL" ⇒ refuse 3 6) ∷ ("Ć336ŹŹ85À" ⇒ refuse 3 8) ∷ ("Ɓ`mFIsm\"ÀÀ" ⇒ refuse 3 9) ∷
     ("À)BĆ58ƁZ<\u{7f}F" ⇒ refuse 3 9) ∷ ("ƁDżĆŻi÷n.ŹCD" ⇒ refuse 3 4) ∷ []
 
--- for each of the checks 0, 1, 64, 95, 96, 99, 101 and 102, one label of each START
+-- for each of the checks 0, 1, 64, 95, 96, 99, 101, 102 and 97, one label without ź of each START
 unfoldable pub checksOn : List Label
 checksOn =
     ("À " ⇒ accepted 2 "D09B336663AC") ∷ ("ƁK5+Ć" ⇒ accepted 5 "D2163B72624BBDB331D6") ∷ ("ĆÀ" ⇒ accepted 2 "D39D7B6663AC") ∷ ("À!" ⇒ accepted 2 "D099B33663AC") ∷
     ("ƁvÀ\u{1e}\u{10}<" ⇒ accepted 6 "D21E93AF45EA79CD33663AC") ∷ ("ĆŹ" ⇒ accepted 2 "D39EBB3663AC") ∷ ("ÀŻ\u{e}\u{8}\"" ⇒ accepted 5 "D0978B0A4C2CCD4331D6") ∷
-    ("ƁÀ\t\u{1d}F\u{13}" ⇒ accepted 6 "D21D7A1A51E8C57928663AC") ∷ ("Ć071Ź9" ⇒ accepted 4 "D39313D765CA198EB") ∷ ("ÀźŹ" ⇒ accepted 3 "D09EA3D75E8C758") ∷
+    ("ƁÀ\t\u{1d}F\u{13}" ⇒ accepted 6 "D21D7A1A51E8C57928663AC") ∷ ("Ć071Ź9" ⇒ accepted 4 "D39313D765CA198EB") ∷ ("À\u{1f}" ⇒ accepted 2 "D097A2F463AC") ∷
     ("Ɓżż" ⇒ accepted 3 "D217BAF75E8C758") ∷ ("ĆÀĆ" ⇒ accepted 3 "D39D7AEF5E8C758") ∷ ("ÀŻ" ⇒ accepted 2 "D0978AF163AC") ∷ ("ƁRj" ⇒ accepted 3 "D218BA195E2C758") ∷
-    ("ĆÀźD" ⇒ accepted 4 "D39D7BD4588BC58EB") ∷ ("ÀĆ" ⇒ accepted 2 "D0977AEF63AC") ∷ ("ƁŽ" ⇒ accepted 2 "D21E8AEF63AC") ∷ ("Ć97" ⇒ accepted 2 "D39EA2EF63AC") ∷
+    ("Ć5Ź8À6" ⇒ accepted 5 "D39EBBB175ECE978B1D6") ∷ ("ÀĆ" ⇒ accepted 2 "D0977AEF63AC") ∷ ("ƁŽ" ⇒ accepted 2 "D21E8AEF63AC") ∷ ("Ć97" ⇒ accepted 2 "D39EA2EF63AC") ∷
     ("ÀŹ)ŽŹ" ⇒ accepted 5 "D09EBB247A2F5DD7B1D6") ∷ ("Ɓż" ⇒ accepted 2 "D217BBAF63AC") ∷ ("ĆƁŻ4żŻ" ⇒ accepted 6 "D397BAF164EBDD78BAF63AC") ∷
-    ("À_\u{7}" ⇒ accepted 3 "D094C2687AEC758") ∷ ("ƁÀ" ⇒ accepted 2 "D21D7BD763AC") ∷ ("ĆƁ" ⇒ accepted 2 "D397BBD763AC") ∷ []
+    ("À_\u{7}" ⇒ accepted 3 "D094C2687AEC758") ∷ ("ƁÀ" ⇒ accepted 2 "D21D7BD763AC") ∷ ("ĆƁ" ⇒ accepted 2 "D397BBD763AC") ∷
+    ("À1\u{15}PŻ" ⇒ accepted 5 "D0939A79776BC5EA31D6") ∷ ("ƁŻ" ⇒ accepted 2 "D2178BD463AC") ∷ ("Ć7661" ⇒ accepted 3 "D39943217A8C758") ∷ []
+
+-- The labels with ź that the crate accepts: those left out of the tables above, and others, two of
+-- them with more than 255 symbols. Before request 12 of document 02 they were answered by the
+-- crate's row, or by 4 above 255 symbols; now they are refused 19 at their first ź, whose place was
+-- looked up in the text.
+unfoldable pub withFNC2 : List WithFNC2
+withFNC2 =
+    (points "ÀŻźŽżŹ" firstAt 2 gives accepted 6 "D0978BD47A2EBDEBB8B63AC") ∷ (points "ƁŻźŽżŹ" firstAt 2 gives accepted 6 "D2178BD47A2BDDEBB7763AC") ∷
+    (points "Àź" firstAt 1 gives accepted 2 "D09EA3D463AC") ∷ (points "Ɓź" firstAt 1 gives accepted 2 "D21EA3D163AC") ∷
+    (points "ƁźŻżŹ" firstAt 1 gives accepted 5 "D21EA2F15EEF5D3431D6") ∷ (points "Ɓ$ź3&" firstAt 2 gives accepted 5 "D21233D465C9910CB1D6") ∷
+    (points "Àź9Ɓ#D3" firstAt 1 gives accepted 7 "D09EA3965EE9316232E636C758") ∷
+    (points "ƁŽŻ,= ÷(÷źŻ" firstAt 9 gives accepted 11 "D21E8AF159CE65B32F4464BD1EA2F1768C758") ∷
+    (points "À^ź\u{1b}ŽŹŻżHFƁ[" firstAt 2 gives accepted 12 "D09E2BD47B6F45EBAF175EC5118AF771A9798EB") ∷
+    (points "ƁĆ03ÀźƁtż3[e^" firstAt 5 gives accepted 12 "D2177A4C75EF517BA7A5EECB9C6AC878AE998EB") ∷
+    (points "À&ź'#\u{5}%źŽ\u{5}\u{f}\u{2}5Ć49" firstAt 2 gives accepted 15 "D09323D44C4931642267A8F456423D486DC977B47476C758") ∷
+    (points "Ć1Ź6ÀŽ\u{11}>\u{3}ŻƁŹ÷ŽźĆ1Ź7ÀŻ" firstAt 14 gives accepted 19 "D39EBA7675EF452F36C42CBC57BBD75E8F45EA2EF7AE9CDD7AF178AC758") ∷
+    (points "Ɓ&ŹgŻ/hÀ\u{19}\u{15}%\u{6}Ž\u{10}Vź?*Ɓź#>÷" firstAt 15 gives accepted 23 "D21323D74D0BC57326175EDBD3CA26584F454F3AC7A8D8D912F77A8931B62F4650C758") ∷
+    (points "ÀŽ/Y-ż\u{13}OV\u{1a}źSUF\u{19}ź\u{14}Ž>Ć96ƁL" firstAt 10 gives accepted 23 "D09E8AE67689B9D7AF2476EB1BDBD46E8DDD18B6F7A89E9E8B6C5DEBC57BA37530C758") ∷
+    (points "ƁŻ1÷jżź!vż7TÀ\u{7}*\u{3}UO\u{1e}#Ć4Ź5Ź" firstAt 6 gives accepted 24 "D2178A735E88657BBD466CF497BBB76E2EBD3432242CDDD1DA2F498BBDEBAEC7AE8BD8EB") ∷
+    (points "ÀźFT2*^\u{e}6\u{16}\rŻCOD\u{10}Ź\u{b}\u{13}XT\u{16}Ɓd^ÀŻ" firstAt 1
+    gives accepted 27 "D09EA2316E2CE5913C5614CE9E93DD5E288D1DAC453CF5D84AF2716DC5E92F7426F15D7AF176EC758") ∷
+    (points "Ɓ}Ź÷$Źż'qHhŽS I1Ź0Ou%:Vźwul-" firstAt 23 gives accepted 28 "D2147BD75E8919EBAF74C49798A2617A2DD1B33114E6F5D3B23B4F2899C9BAC7A8F293CB284DC90D8EB") ∷
+    (points "Ć51987Ź9Ɓź82`Żcźl~|)ż143ŽŻŽ÷'A" firstAt 9 gives accepted 27 "D39BA3D17AE8F57BBD474CCE5432F142CF519422F578C917BA7364ECB9E8AF17A2BD13128C45EC758") ∷
+    (points "Ć63754389Ź53849Ź5À]\u{1f}M\u{6}\u{15}żź88Ɓż7ż" firstAt 24
+    gives accepted 24 "D394C30958EDBDEBB774F4F5D7A3AF642BD1762C24F2EBDEA3A674CBDD7BBB75EEC898EB") ∷
+    (points "ÀQ?Žź8\"\u{1f}\"żM:_\u{f})Ɓc |%ÀƁWV÷÷6fCy&)" firstAt 4
+    gives accepted 32 "D09A3B637A2F51D33335E8CCDD7AEC726A611EB245EE859B32BC44CEBD7BBA3758BD17A33A58488DB7A64648D998EB") ∷
+    (points "ÀZŹ\u{8}?Ɓ~cżWźŻQgź÷ż%tPuŻsgŻż'ź-TbŻ8{" firstAt 10
+    gives accepted 34 "D09D8BD74C2D8D7BA2F42CBDDD1BD45E2D1D343D45E8BDD1327A7769E578AF24D0BC57BA627A89B9B8A435E2E99EDBD163AC") ∷
+    (points "À\u{6}BŹŽ\u{13}CźEI\u{1a}\rŻ#2\"%\u{3}O^źĆ0893À6+ŹƁzÀWK" firstAt 7
+    gives accepted 33 "D096122C7AEF45792237A88D188B7B7BABC5263396668990B23B78AF5177A3251EEBD9D3127AEBDDBDBAF746B1D0CB1D6") ∷
+    (points "Ɓźs:Ź5{źJ`Yn@u;Ž3YŻ/r-mKyź_S3ŽkTA~O/Y]" firstAt 1
+    gives accepted 38 "D21EA2F2726F5DB93DB7A8B71433B4614C6D3CBB27A2CB9DA2F15CC93D373DD58EDBDEA2986E8CB9E8B096E2A3117A3B5CCED190A3B63AC") ∷
+    (points "ƁYE)`ŹAl&bVĆ1348ŹÀ\u{1b}6ŻŽźź\u{18}ƁÀI\u{19}8ŹŻƁ``'Fa9" firstAt 22
+    gives accepted 37 "D21DA234648A19EBA8C65099121BAC5DE9B9DDBD775EF6D9D2F17A2F51EA3C95EEEBD88B6F74CF5D78AF750CA19312314B0E59B8B1D6") ∷
+    (points "ƁźWŽ>+(}-4B1T*8À\u{c}Y\tƁÀŻ#źR,Ż[\u{8}\u{f}\u{1}\u{14}\u{17}ź\u{3}@\u{14} \u{3}\n" firstAt 1
+    gives accepted 40 "D21EA3A37A2DB18923251E9B993A2C4E6DC5913A675ECA1DA21A5EEEBD78A4C7A8C5D672F171A9851EA584F4F29EA2166369E9B32164328BD8EB") ∷
+    (points "ÀźŹ" firstAt 1 gives accepted 3 "D09EA3D75E8C758") ∷ (points "ĆÀźD" firstAt 2 gives accepted 4 "D39D7BD4588BC58EB") ∷
+    (points "ƁAźź" firstAt 2 gives accepted 4 "D21463D47A89198EB") ∷ (points "ĆƁź" firstAt 2 gives accepted 3 "D397BBD46F6C758") ∷
+    (points "ĆÀź" firstAt 2 gives accepted 3 "D39D7BD47B6C758") ∷ (points "Ć97Ɓź" firstAt 4 gives accepted 4 "D39EA2F77A8C258EB") ∷
+    (points "Ć97Àź" firstAt 4 gives accepted 4 "D39EA3AF7A8F758EB") ∷ (points "ÀƁź" firstAt 2 gives accepted 3 "D097BBD4792C758") ∷
+    (points "ƁÀź" firstAt 2 gives accepted 3 "D21D7BD46F6C758") ∷ (points "ÀźƁź" firstAt 1 gives accepted 4 "D09EA2F77A88698EB") ∷
+    (points "ƁźĆ12" firstAt 1 gives accepted 4 "D21EA2EF59CEDD8EB") ∷ (points "ÀĆ12Ɓź" firstAt 5 gives accepted 5 "D0977ACE5EEF51BDB1D6") ∷
+    (points "Ć1Ź2Ɓź" firstAt 5 gives accepted 5 "D39EBACE5EEF517A31D6") ∷ (points "ƁźĆ1Ź2" firstAt 1 gives accepted 5 "D21EA2EF7AEB398DB1D6") ∷
+    (points "ƁŽź" firstAt 2 gives accepted 3 "D21E8BD4794C758") ∷ (points "ÀŹź" firstAt 2 gives accepted 3 "D09EBBD46F6C758") ∷
+    (points "Ɓ÷ź" firstAt 2 gives accepted 3 "D217A3D44F4C758") ∷ (points "À\0ź" firstAt 2 gives accepted 3 "D09433D46E2C758") ∷
+    (points "ƁźAź" firstAt 1 gives accepted 4 "D21EA28C7A8B1D8EB") ∷ (points "ÀAIMź" firstAt 4 gives accepted 5 "D09463115D8F5193B1D6") ∷
+    (points "ƁAIMĆ1234Ɓź" firstAt 10 gives accepted 9 "D21463115D8BBD6722C5EEF519CB1D6") ∷ (Ɓ ∷ replicate 255 0x17A firstAt 1 gives refuse 4 256) ∷
+    (Ɓ ∷ replicate 300 65 ++ (0x17A ∷ []) firstAt 301 gives refuse 4 302) ∷ []
 
 -- Every code point below 512 and 7FF, 800, D7FF, E000, FFFF, 10000 and 10FFFF, put between two
 -- texts: those that are not refused 3 at that place, in their order. The crate was run on all other
--- code points up to 10FFFF too, and refuses each with Error::Character.
+-- code points up to 10FFFF too, and refuses each with Error::Character. The crate accepts ź in sets
+-- A and B, and encode refuses it there by 19: see `fnc2Swept`.
 unfoldable pub sweeps : List Sweep
 sweeps =
     (swept "" "A" 0 (points "ÀĆƁ")) ∷ (swept "À" "" 1 (count 0 96 ++ points "ĆŹźŻżŽƁ")) ∷ (swept "Ɓ" "" 1 (count 32 95 ++ points "À÷ĆŹźŻżŽ")) ∷
@@ -850,9 +923,9 @@ settling =
     ("Ć1Ź2" becomes "ĆŹ12") ∷ ("Ć1ŹŹ2" becomes "ĆŹŹ12") ∷ ("Ć1ŹŹŹ2" becomes "ĆŹŹŹ12") ∷ ("ĆŹ1Ź2Ź" becomes "ĆŹŹ12Ź") ∷ ("Ć12Ź3Ź4" becomes "Ć12ŹŹ34") ∷
     ("Ć1Ź23Ź4" becomes "ĆŹ12Ź34") ∷ ("Ć1ŹŹ23ŹŹŹ4" becomes "ĆŹŹ12ŹŹŹ34") ∷ ("ÀĆ1Ź2" becomes "ÀĆŹ12") ∷ ("ÀAŹĆ9Ź9ÀŹA" becomes "ÀAŹĆŹ99ÀŹA") ∷
     ("Ɓ1Ź2Ć1Ź2" becomes "Ɓ1Ź2ĆŹ12") ∷ ("Ć1Ź2Ɓ1Ź2" becomes "ĆŹ12Ɓ1Ź2") ∷ ("Ć1Ź2ÀĆ3Ź4" becomes "ĆŹ12ÀĆŹ34") ∷ ("Ć12345Ź6" becomes "Ć1234Ź56") ∷
-    ("Ć0Ź00Ź0" becomes "ĆŹ00Ź00") ∷ (stays "") ∷ (stays "À") ∷ (stays "Ć") ∷ (stays "1Ź2") ∷ (stays "1Ź2Ć34") ∷ (stays "ĆŹ12") ∷ (stays "Ć12") ∷ (stays "Ć12Ź") ∷
-    (stays "Ć12Ź34") ∷ (stays "ĆŹŹ12ŹŹ") ∷ (stays "À1Ź2") ∷ (stays "Ɓ1Ź2") ∷ (stays "ÀAŹ1Ź2") ∷ (stays "Ć12Ɓ1Ź2") ∷ (stays "Ć12À1Ź2") ∷ (stays "ĆŹ") ∷
-    (stays "ƁŽ1Ź2") ∷ (stays "ĆƁ1Ź2") ∷ (stays "ÀĆŹ1234Ź") ∷ []
+    ("Ć0Ź00Ź0" becomes "ĆŹ00Ź00") ∷ ("ƁźĆ1Ź2" becomes "ƁźĆŹ12") ∷ (stays "") ∷ (stays "À") ∷ (stays "Ć") ∷ (stays "1Ź2") ∷ (stays "1Ź2Ć34") ∷ (stays "ĆŹ12") ∷
+    (stays "Ć12") ∷ (stays "Ć12Ź") ∷ (stays "Ć12Ź34") ∷ (stays "ĆŹŹ12ŹŹ") ∷ (stays "À1Ź2") ∷ (stays "Ɓ1Ź2") ∷ (stays "ÀAŹ1Ź2") ∷ (stays "Ć12Ɓ1Ź2") ∷
+    (stays "Ć12À1Ź2") ∷ (stays "ĆŹ") ∷ (stays "ƁŽ1Ź2") ∷ (stays "ĆƁ1Ź2") ∷ (stays "ÀĆŹ1234Ź") ∷ (stays "Ɓ1ź2") ∷ (stays "ƁźŹ1Ź2") ∷ []
 
 -- ---- h. the lent buffer
 
@@ -865,6 +938,13 @@ buffers =
     (calls encode (points "À") (replicate 37 7) 0 1 (cellsOf "11010000100110110011001100011101011" ++ (7 ∷ 7 ∷ []))) ∷
     (calls encode (points "À") (replicate 35 9) 0 1 (cellsOf "11010000100110110011001100011101011")) ∷
     (calls encode (points "À") (replicate 34 9) 5 35 (replicate 34 9)) ∷ (calls encode (points "Ć1") (4 ∷ 5 ∷ 6 ∷ []) 3 2 (4 ∷ 5 ∷ 6 ∷ [])) ∷
+    (calls encode (points "Ɓź") (replicate 47 7) 19 1 (replicate 47 7)) ∷ (calls encode (points "Ć97Ɓź") (4 ∷ 5 ∷ 6 ∷ []) 19 4 (4 ∷ 5 ∷ 6 ∷ [])) ∷
+    (calls encode (points "Ɓź") ([]) 19 1 ([])) ∷ (calls encode (points "Ɓź€") (replicate 47 7) 3 2 (replicate 47 7)) ∷
+    (calls encodeWithFNC2 (points "Ɓź") (replicate 47 7) 0 2 (cellsOf "1101001000011110101000111101000101100011101011" ++ (7 ∷ []))) ∷
+    (calls encodeWithFNC2 (points "Ɓź") (4 ∷ 5 ∷ 6 ∷ []) 5 46 (4 ∷ 5 ∷ 6 ∷ [])) ∷
+    (calls draw (104 ∷ 97 ∷ []) (replicate 47 7) 0 2 (cellsOf "1101001000011110101000111101000101100011101011" ++ (7 ∷ []))) ∷
+    (calls read (cellsOf "1101001000011110101000111101000101100011101011") (1 ∷ 2 ∷ 3 ∷ []) 0 2 (104 ∷ 97 ∷ 3 ∷ [])) ∷
+    (calls spell (104 ∷ 97 ∷ []) (8 ∷ 8 ∷ 8 ∷ []) 0 2 (Ɓ ∷ 0x17A ∷ 8 ∷ [])) ∷ (calls scan (104 ∷ 97 ∷ []) (8 ∷ 9 ∷ []) 0 0 (8 ∷ 9 ∷ [])) ∷
     (calls draw (105 ∷ 2 ∷ []) (3 ∷ []) 5 46 (3 ∷ [])) ∷ (calls read (cellsOf "11010000100110110011001100011101011") (1 ∷ 2 ∷ 3 ∷ []) 0 1 (103 ∷ 2 ∷ 3 ∷ [])) ∷
     (calls read (cellsOf "11010000100110110011001100011101010") (1 ∷ 2 ∷ 3 ∷ []) 15 34 (1 ∷ 2 ∷ 3 ∷ [])) ∷
     (calls read (cellsOf "01010000100110110011001100011101011") (1 ∷ 2 ∷ 3 ∷ []) 16 0 (1 ∷ 2 ∷ 3 ∷ [])) ∷
@@ -921,7 +1001,108 @@ flippings =
     ((104 ∷ 33 ∷ 41 ∷ 45 ∷ []) flippedAt 55 gives refuse 15 55) ∷ ((104 ∷ 33 ∷ 41 ∷ 45 ∷ []) flippedAt 61 gives refuse 15 61) ∷
     ((104 ∷ 33 ∷ 41 ∷ 45 ∷ []) flippedAt 67 gives refuse 15 67) ∷ []
 
+-- ---- k. FNC2 retired
+
+-- Refusal 19 and its place in the order, by hand from request 12 of document 02: "19 at the first ź
+-- (its place), after 3 and before 4; in set C ź is still 3".
+unfoldable pub fnc2Refused : List Example
+fnc2Refused =
+    (points "Ɓź" into 0 gives refuse 19 1) ∷ (points "Ɓź" into 34 gives refuse 19 1) ∷ (points "Ɓź" into 35 gives refuse 19 1) ∷
+    (points "Ɓź" into 45 gives refuse 19 1) ∷ (points "Ɓź" into 46 gives refuse 19 1) ∷ (points "Ɓź" into 2829 gives refuse 19 1) ∷
+    (points "Àź" into 2829 gives refuse 19 1) ∷ (points "ƁAźź" into 2829 gives refuse 19 2) ∷ (points "ÀźźźA" into 2829 gives refuse 19 1) ∷
+    (points "ĆƁź" into 2829 gives refuse 19 2) ∷ (points "ĆÀź" into 2829 gives refuse 19 2) ∷ (points "Ć97Ɓź" into 2829 gives refuse 19 4) ∷
+    (points "ÀĆ9797Ɓź" into 2829 gives refuse 19 7) ∷ (points "Ć1Ź2Àź" into 2829 gives refuse 19 5) ∷ (points "ƁźĆ12" into 2829 gives refuse 19 1) ∷
+    (points "ÀƁź" into 2829 gives refuse 19 2) ∷ (points "ƁÀź" into 2829 gives refuse 19 2) ∷ (points "ÀźƁź" into 2829 gives refuse 19 1) ∷
+    (points "ƁŽź" into 2829 gives refuse 19 2) ∷ (points "Ɓ÷÷ź" into 2829 gives refuse 19 3) ∷ (points "ƁŹŻŽżź" into 2829 gives refuse 19 5) ∷
+    (points "ƁźĆ12Ź" into 2829 gives refuse 19 1) ∷ (Ɓ ∷ 0x17A ∷ 0xD800 ∷ [] into 2829 gives refuse 1 2) ∷
+    (Ɓ ∷ 0x17A ∷ 0x110000 ∷ 0x17A ∷ [] into 0 gives refuse 1 2) ∷ (0x17A ∷ 0xDFFF ∷ [] into 2829 gives refuse 1 1) ∷
+    (Ɓ ∷ 0x17A ∷ replicate 300 65 ++ (0xD800 ∷ []) into 2829 gives refuse 1 302) ∷ (points "ź" into 2829 gives refuse 3 0) ∷
+    (points "źƁ" into 2829 gives refuse 3 0) ∷ (points "Ćź" into 2829 gives refuse 3 1) ∷ (points "Ć12ź" into 2829 gives refuse 3 3) ∷
+    (points "ƁĆź" into 2829 gives refuse 3 2) ∷ (points "ÀĆ97ź" into 2829 gives refuse 3 4) ∷ (points "ƁźĆź" into 2829 gives refuse 3 3) ∷
+    (points "Ɓź€" into 2829 gives refuse 3 2) ∷ (points "Ɓ€ź" into 2829 gives refuse 3 1) ∷ (points "Àźa" into 2829 gives refuse 3 2) ∷
+    (points "ƁźƁ" into 2829 gives refuse 3 2) ∷ (points "ÀźÀ" into 2829 gives refuse 3 2) ∷ (points "Ć1ź" into 2829 gives refuse 3 2) ∷
+    (points "Ć1ź2" into 2829 gives refuse 3 2) ∷ (points "Ć1Źź2" into 2829 gives refuse 3 3) ∷ (points "ƁźĆ1À" into 2829 gives refuse 3 4) ∷
+    (points "ƁźĆ1" into 2829 gives refuse 3 4) ∷ (points "ƁźĆ1Ź" into 2829 gives refuse 3 5) ∷ (points "ÀźĆ123" into 2829 gives refuse 3 6) ∷
+    (points "Ɓź€" into 0 gives refuse 3 2) ∷ (Ɓ ∷ 0x17A ∷ replicate 300 65 ++ (0x20AC ∷ []) into 2829 gives refuse 3 302) ∷
+    (Ɓ ∷ 0x17A ∷ replicate 253 65 into 0 gives refuse 19 1) ∷ (Ɓ ∷ replicate 253 65 ++ (0x17A ∷ []) into 2828 gives refuse 19 254) ∷
+    (Ɓ ∷ replicate 254 65 ++ (0x17A ∷ []) into 2829 gives refuse 19 255) ∷ (Ɓ ∷ 0x17A ∷ replicate 254 65 into 2829 gives refuse 19 1) ∷
+    (Ć ∷ replicate 510 48 ++ (Ɓ ∷ 0x17A ∷ []) into 0 gives refuse 19 512) ∷ (À ∷ replicate 255 0x17A into 0 gives refuse 19 1) ∷ []
+
+-- Document 01's encoder, before request 12, by hand: ź is 97 in sets A and B. The checks are
+-- 104+97=201, 103+97=200, 104+33+2·97+3·97=622, 105+100+2·97=399 and 105+97+2·100+3·97=693, all
+-- modulo 103.
+unfoldable pub fnc2Before : List Example
+fnc2Before =
+    (points "Ɓź" into 46 gives accept 2 (cellsOf "11010010000 11110101000 11110100010 1100011101011")) ∷
+    (points "Àź" into 46 gives accept 2 (cellsOf "11010000100 11110101000 11110101000 1100011101011")) ∷
+    (points "ƁAźź" into 68 gives accept 4 (cellsOf "11010010000 10100011000 11110101000 11110101000 10010001100 1100011101011")) ∷
+    (points "ĆƁź" into 57 gives accept 3 (cellsOf "11010011100 10111101110 11110101000 11011110110 1100011101011")) ∷
+    (points "Ć97Ɓź" into 68 gives accept 4 (cellsOf "11010011100 11110101000 10111101110 11110101000 11000010010 1100011101011")) ∷
+    (points "Ɓź" into 0 gives refuse 5 46) ∷ (points "Ɓź" into 34 gives refuse 5 46) ∷ (points "Ɓź" into 35 gives refuse 5 46) ∷
+    (points "Ɓź" into 45 gives refuse 5 46) ∷ (points "Ćź" into 2829 gives refuse 3 1) ∷ (points "Ɓź€" into 0 gives refuse 3 2) ∷
+    (points "ƁźĆ1" into 2829 gives refuse 3 4) ∷ (Ɓ ∷ 0x17A ∷ 0xD800 ∷ [] into 2829 gives refuse 1 2) ∷ (Ɓ ∷ 0x17A ∷ replicate 254 65 into 0 gives refuse 4 256) ∷
+    (Ɓ ∷ 0x17A ∷ replicate 253 65 into 2828 gives refuse 5 2829) ∷ []
+
+-- Labels without ź that are still accepted, by hand, and that document 01's encoder answers alike:
+-- the code points beside ź, 97 as the check, and 97 as a pair in set C.
+unfoldable pub fnc2Beside : List Example
+fnc2Beside =
+    (points "ƁŻ" into 46 gives accept 2 (cellsOf "11010010000 10111100010 11110101000 1100011101011")) ∷
+    (points "Ć97" into 46 gives accept 2 (cellsOf "11010011100 11110101000 10111011110 1100011101011")) ∷
+    (points "ƁŹ" into 46 gives accept 2 (cellsOf "11010010000 11110101110 11011001100 1100011101011")) ∷
+    (points "ÀŻ" into 46 gives accept 2 (cellsOf "11010000100 10111100010 10111100010 1100011101011")) ∷
+    (points "Ɓz" into 46 gives accept 2 (cellsOf "11010010000 11011110110 11110110110 1100011101011")) ∷
+    (points "ÀĆ97" into 57 gives accept 3 (cellsOf "11010000100 10111011110 11110101000 11110010100 1100011101011")) ∷
+    (points "Ć97ƁŻ" into 68 gives accept 4 (cellsOf "11010011100 11110101000 10111101110 10111100010 10011000010 1100011101011")) ∷ []
+
+-- The code points of `sweeps`, put between two texts: those that are refused 19 at that place, by
+-- hand. It is ź in sets A and B, and nothing else.
+unfoldable pub fnc2Swept : List Sweep
+fnc2Swept =
+    (swept "À" "" 1 (points "ź")) ∷ (swept "Ɓ" "" 1 (points "ź")) ∷ (swept "Ć" "" 1 ([])) ∷ []
+
+-- Rows with 97 in set A or B, 97 as a pair in set C and 97 as the check, by hand: read answers as
+-- before request 12.
+unfoldable pub fnc2Rows : List Example
+fnc2Rows =
+    (cellsOf "11010010000 11110101000 11110100010 1100011101011" into 2 gives accept 2 (104 ∷ 97 ∷ [])) ∷
+    (cellsOf "11010010000 11110101000 11110100010 1100011101011" into 1 gives refuse 5 2) ∷
+    (cellsOf "11010010000 11110101000 11110101000 1100011101011" into 2 gives refuse 14 98) ∷
+    (cellsOf "11010000100 11110101000 11110101000 1100011101011" into 2 gives accept 2 (103 ∷ 97 ∷ [])) ∷
+    (cellsOf "11010000100 11110101000 11110100010 1100011101011" into 2 gives refuse 14 97) ∷
+    (cellsOf "11010011100 11110101000 10111011110 1100011101011" into 2 gives accept 2 (105 ∷ 97 ∷ [])) ∷
+    (cellsOf "11010011100 11110101000 11110101000 1100011101011" into 2 gives refuse 14 99) ∷
+    (cellsOf "11010010000 10111100010 11110101000 1100011101011" into 2 gives accept 2 (104 ∷ 96 ∷ [])) ∷
+    (cellsOf "11010010000 10100011000 11110101000 11110101000 10010001100 1100011101011" into 4 gives accept 4 (104 ∷ 33 ∷ 97 ∷ 97 ∷ [])) ∷
+    (cellsOf "11010011100 11110101000 10111101110 11110101000 11000010010 1100011101011" into 4 gives accept 4 (105 ∷ 97 ∷ 100 ∷ 97 ∷ [])) ∷
+    (cellsOf "11010011100 11110101000 10111101110 11110101000 11000010010 1100011101011" into 0 gives refuse 5 4) ∷
+    (cellsOf "11010000100 11110101000 10111011110 11110101000 10011010000 1100011101011" into 4 gives accept 4 (103 ∷ 97 ∷ 99 ∷ 97 ∷ [])) ∷
+    (cellsOf "11110101000 11110101000 11110100010 1100011101011" into 255 gives refuse 13 0) ∷
+    (cellsOf "11010010000 11100101000 11110100010 1100011101011" into 255 gives refuse 16 1) ∷
+    (cellsOf "11010010000 11110101000 11110100010 1100111101011" into 255 gives refuse 15 37) ∷ []
+
+-- Lists with 97 in set A, B or C, with the label that spell writes and the bytes that scan sends,
+-- by hand from document 01 and requests 1 and 12 of document 02; the row is what the crate writes
+-- for that label. 97 in set A or B is spelled ź and sends nothing; in set C it is the pair.
+unfoldable pub fnc2Lists : List Listed
+fnc2Lists =
+    ((105 ∷ 97 ∷ []) spells "Ć97" scans "97" draws "D39EA2EF63AC") ∷ ((103 ∷ 97 ∷ 97 ∷ []) spells "Àźź" scans "" draws "D09EA3D44F2C758") ∷
+    ((104 ∷ 33 ∷ 97 ∷ 33 ∷ []) spells "ƁAźA" scans "AA" draws "D21463D4518CE58EB") ∷ ((103 ∷ 97 ∷ 64 ∷ []) spells "Àź\0" scans "\0" draws "D09EA28665CC758") ∷
+    ((104 ∷ 97 ∷ 95 ∷ []) spells "Ɓź÷" scans "\u{7f}" draws "D21EA2F449EC758") ∷ ((105 ∷ 97 ∷ 97 ∷ []) spells "Ć9797" scans "9797" draws "D39EA3D4794C758") ∷
+    ((105 ∷ 97 ∷ 100 ∷ 97 ∷ []) spells "Ć97Ɓź" scans "97" draws "D39EA2F77A8C258EB") ∷
+    ((105 ∷ 97 ∷ 101 ∷ 97 ∷ 65 ∷ []) spells "Ć97Àź\u{1}" scans "97\u{1}" draws "D39EA3AF7A8961CD31D6") ∷
+    ((104 ∷ 97 ∷ 99 ∷ 97 ∷ []) spells "ƁźĆ97" scans "97" draws "D21EA2EF7A89858EB") ∷
+    ((103 ∷ 97 ∷ 99 ∷ 97 ∷ 101 ∷ 97 ∷ []) spells "ÀźĆ97Àź" scans "97" draws "D09EA2EF7A8EBDEA28C63AC") ∷
+    ((103 ∷ 97 ∷ 100 ∷ 97 ∷ 101 ∷ 97 ∷ []) spells "ÀźƁźÀź" scans "" draws "D09EA2F77A8EBDEA22363AC") ∷
+    ((104 ∷ 97 ∷ 65 ∷ 101 ∷ 97 ∷ 65 ∷ []) spells "ƁźaÀź\u{1}" scans "a\u{1}" draws "D21EA25875EF512C23263AC") ∷
+    ((105 ∷ 102 ∷ 97 ∷ 102 ∷ 100 ∷ 97 ∷ 102 ∷ []) spells "ĆŹ97ŹƁźŹ" scans "97" draws "D39EBBD47AEBDDEA3D7622C758") ∷
+    ((104 ∷ 96 ∷ 97 ∷ 102 ∷ 100 ∷ []) spells "ƁŻźŹż" scans "" draws "D2178BD47AEBDD6131D6") ∷
+    ((103 ∷ 98 ∷ 97 ∷ 65 ∷ []) spells "ÀŽź\u{1}" scans "\u{1}" draws "D09E8BD44B0C258EB") ∷
+    ((104 ∷ 98 ∷ 97 ∷ 65 ∷ []) spells "ƁŽźa" scans "a" draws "D21E8BD44B0CA18EB") ∷
+    ((103 ∷ 97 ∷ 98 ∷ 65 ∷ []) spells "ÀźŽ\u{1}" scans "a" draws "D09EA3D14B0CA18EB") ∷
+    ((104 ∷ 97 ∷ 98 ∷ 65 ∷ 97 ∷ []) spells "ƁźŽaź" scans "\u{1}" draws "D21EA3D14B0F51BBB1D6") ∷ []
+
 -- a proof by computation names this on its `unfolding` line: it opens every definition above
 unfoldable pub examples-computes : Unit {0}
-unfolding digit16 digits16 cellsOf fours rowOf accepted pairs16 bytesOf elevens joined times shiftThenPlain asked given parsedAs printedAs tried passesAt those passing kept threeJobs threeAnswers settles settled ruled twice flips thrice gave called left unstarred unstarredRecords longest order published publishedRows crateChars crateStop crateWidths crateBars everyNumber everySwitch everyFunction everyPair foreignDigits firstPoints documented randomly randomlyWrong checksOn sweeps readBack readLengths readBlocks readWorn readStops readChecks readLong lists badLists drawShort spellShort scanShort shiftEach shiftBefore shifting packings unpackings settling buffers redrawings flippings settle-computes chars-computes rules-computes damage-computes
+unfolding digit16 digits16 cellsOf fours rowOf accepted pairs16 bytesOf elevens joined times shiftThenPlain asked given parsedAs printedAs answerOf ofCrate retired tried passesAt retiresAt those passing retires kept threeJobs threeAnswers settles settled ruled twice flips thrice gave called left unstarred unstarredRecords longest order published publishedRows crateChars crateStop crateWidths crateBars everyNumber everySwitch everyFunction everyPair foreignDigits firstPoints documented randomly randomlyWrong checksOn withFNC2 sweeps readBack readLengths readBlocks readWorn readStops readChecks readLong lists badLists drawShort spellShort scanShort shiftEach shiftBefore shifting packings unpackings settling buffers redrawings flippings fnc2Refused fnc2Before fnc2Beside fnc2Swept fnc2Rows fnc2Lists settle-computes chars-computes rules-computes damage-computes
 examples-computes = tt

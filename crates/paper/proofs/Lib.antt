@@ -20,5 +20,6 @@ pub mod Flipped
 pub mod Bytes
 pub mod Records
 pub mod Results
+pub mod Retiring
 pub mod Wrong
 pub mod Promises

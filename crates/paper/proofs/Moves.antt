@@ -229,7 +229,7 @@ unfolding fitting isData
 fits-test false m f = bounds-start m (f .0) (f .1)
 fits-test true m f = le-leb m 102 f
 
-fits-below : (b : Bool) (m : ℕ) → Fits b m → m < 106
+pub fits-below : (b : Bool) (m : ℕ) → Fits b m → m < 106
 fits-below false m f = omega arith
 fits-below true m f = omega arith
 

@@ -2,12 +2,13 @@
 -- shows.
 -- Assumes nothing.
 use Rattle.paper.specs.Promises.{Promises}
-use Rattle.paper.proofs.Labels.{points-named, labels, shift-labels}
+use Rattle.paper.proofs.Labels.{points-named, labels, shift-labels, retired-labels}
 use Rattle.paper.proofs.Table.{table-length, table-widths, table-rule, table-apart, table-found, table-pattern, look-is, look-worn, look-unknown}
 use Rattle.paper.proofs.Codes.{numbers-written, numbers-sent, numbers-switch, numbers-shift, numbers-differ, numbers-all, numbers-back, scan-seven-bits}
 use Rattle.paper.proofs.Shifting.{shift-reads, shift-none, shift-pair, scan-as-before, scan-same-length, scan-same-refusal}
 use Rattle.paper.proofs.Results.{encode-owes, draw-owes, read-owes, spell-owes, scan-owes, pack-owes, unpack-owes}
-use Rattle.paper.proofs.Encoding.{encode-size, encode-exactly, same-row, spell-encodes, spell-only}
+use Rattle.paper.proofs.Encoding.{encodeWithFNC2-exactly, encode-size, same-row, spell-encodes, spell-only, spell-exactly}
+use Rattle.paper.proofs.Retiring.{retired-without, retired-stopped, retired-refused, retired-exactly, retired-accepted, retired-rows}
 use Rattle.paper.proofs.Settling.{settle-quiet, settle-keeps, settle-order, settle-once, settle-still}
 use Rattle.paper.proofs.Reading.{draw-size, read-size, read-of-draw, draw-of-read}
 use Rattle.paper.proofs.Exactly.{read-exactly}
@@ -47,13 +48,20 @@ promises = record {
   draw-size = draw-size;
   read-size = read-size;
   unpack-size = unpack-size;
-  encode-exactly = encode-exactly;
+  encodeWithFNC2-exactly = encodeWithFNC2-exactly;
   same-row = same-row;
   settle-quiet = settle-quiet;
   settle-keeps = settle-keeps;
   settle-order = settle-order;
   settle-once = settle-once;
   settle-still = settle-still;
+  retired-without = retired-without;
+  retired-stopped = retired-stopped;
+  retired-refused = retired-refused;
+  retired-exactly = retired-exactly;
+  retired-accepted = retired-accepted;
+  retired-rows = retired-rows;
+  retired-labels = retired-labels;
   read-exactly = read-exactly;
   read-of-draw = read-of-draw;
   draw-of-read = draw-of-read;
@@ -65,6 +73,7 @@ promises = record {
   flipped-refused = flipped-refused;
   spell-encodes = spell-encodes;
   spell-only = spell-only;
+  spell-exactly = spell-exactly;
   scan-seven-bits = scan-seven-bits;
   shift-reads = shift-reads;
   shift-none = shift-none;

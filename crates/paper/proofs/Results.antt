@@ -9,13 +9,13 @@ use Prim.Native.Nat.{ℕ, zero, suc, _≤_}
 use native.Mathlib.Omega.{arith}
 use lib.Dec.{eqb}
 use lib.ListN.{length, take, drop}
-use Rattle.helpers.specs.Answers.{if_then_else_, Answer, accept, refuses, every, whole}
+use Rattle.helpers.specs.Answers.{if_then_else_, Answer, accept, Test, refuses, passes, every, whole}
 use Rattle.helpers.specs.Owes.{OneOf, Owes}
 use Rattle.helpers.proofs.Answering.{into-accept, whole-accept}
 use Rattle.helpers.proofs.Owed.{TestBy, By, by-if, by-then, by-ask, by-every, by-into, owes}
 use Rattle.paper.specs.Iso15417.{Look, is, worn, unknown, found, stop, scanned}
 use Rattle.paper.specs.Crate.{Parsed, stops, symbols, parse}
-use Rattle.paper.specs.Jobs.{most, SymbolList, encode, draw, read, spell, scan, pack, unpack, parsed, isStart, isData, wellFormed, ofList, ofRow, fitsAt, Blocks, wrongBlock, numbers, withNumber, block, blocksFrom, looked, wanted}
+use Rattle.paper.specs.Jobs.{most, SymbolList, parsed, encoder, encodeWithFNC2, notFNC2, encode, draw, read, spell, scan, pack, unpack, isStart, isData, wellFormed, ofList, ofRow, fitsAt, Blocks, wrongBlock, numbers, withNumber, block, blocksFrom, looked, wanted}
 use Rattle.paper.proofs.Lists.{symbol-list}
 use Rattle.paper.proofs.Codes.{scanned-short-before}
 use Rattle.paper.proofs.Encoding.{encode-size, spell-encodes}
@@ -74,13 +74,23 @@ unfolding ofList
 list-by room s n out =
     by-into _ room _ (inr (inr (inl refl))) (by-then _ _ _ (by-ask _ _ 10 (length s) (inl refl)) (by-then _ _ _ (by-form _ s (inr (inl refl))) tt))
 
-encode-by : (room : ℕ) (x : List ℕ) → By (1 ∷ 2 ∷ 3 ∷ 4 ∷ 5 ∷ []) (encode room x)
+encoder-by : (ks : List ℕ) (retired : Test) (room : ℕ) (x : List ℕ) → OneOf 1 ks → OneOf 2 ks → OneOf 3 ks → TestBy ks retired → OneOf 4 ks → OneOf 5 ks → By ks (encoder retired room x)
+unfolding encoder
+encoder-by ks retired room x one two three by four five =
+    by-into ks room _ five
+    (by-then ks _ _ (by-every ks _ 1 0 x one)
+    (by-then ks _ _ (by-ask ks _ 2 0 two)
+    (by-parsed ks (parse x) _ three λ s. by-then ks _ _ by (by-then ks _ _ (by-ask ks _ 4 (length s) four) tt))))
+
+pub with-by : (room : ℕ) (x : List ℕ) → By (1 ∷ 2 ∷ 3 ∷ 4 ∷ 5 ∷ []) (encodeWithFNC2 room x)
+unfolding encodeWithFNC2
+with-by room x = encoder-by _ passes room x (inl refl) (inr (inl refl)) (inr (inr (inl refl))) tt (inr (inr (inr (inl refl)))) (inr (inr (inr (inr (inl refl)))))
+
+encode-by : (room : ℕ) (x : List ℕ) → By (1 ∷ 2 ∷ 3 ∷ 19 ∷ 4 ∷ 5 ∷ []) (encode room x)
 unfolding encode
 encode-by room x =
-    by-into _ room _ (inr (inr (inr (inr (inl refl)))))
-    (by-then _ _ _ (by-every _ _ 1 0 x (inl refl))
-    (by-then _ _ _ (by-ask _ _ 2 0 (inr (inl refl)))
-    (by-parsed _ (parse x) _ (inr (inr (inl refl))) λ s. by-then _ _ _ (by-ask _ _ 4 (length s) (inr (inr (inr (inl refl))))) tt)))
+    encoder-by _ (every notFNC2 19 0 x) room x (inl refl) (inr (inl refl)) (inr (inr (inl refl)))
+    (by-every _ _ 19 0 x (inr (inr (inr (inl refl))))) (inr (inr (inr (inr (inl refl))))) (inr (inr (inr (inr (inr (inl refl))))))
 
 draw-by : (room : ℕ) (x : List ℕ) → By (10 ∷ 13 ∷ 5 ∷ []) (draw room x)
 unfolding draw
@@ -133,8 +143,8 @@ scan-short room s n b e =
 
 -- ---- the seven
 
-pub encode-owes : Owes encode (1 ∷ 2 ∷ 3 ∷ 4 ∷ 5 ∷ []) 2829
-unfolding encode
+pub encode-owes : Owes encode (1 ∷ 2 ∷ 3 ∷ 19 ∷ 4 ∷ 5 ∷ []) 2829
+unfolding encode encoder
 encode-owes = owes encode _ 2829 (omega arith) encode-by (λ room x n out e. into-accept room _ e .1) (λ room x n out e. omega (arith, encode-size room x n out e))
 
 pub draw-owes : Owes draw (10 ∷ 13 ∷ 5 ∷ []) 2829

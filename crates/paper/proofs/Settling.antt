@@ -73,7 +73,7 @@ module _ {M : Type 0} (f : List ℕ → M) (join : M → M → M) (joins : (a b 
       ∙ sym (joins (leftOver h ++ (c ∷ [])) cs)
       ∙ ap f (append-assoc (leftOver h) (c ∷ []) cs)
 
-occurrences-append : (c : ℕ) (a b : List ℕ) → occurrences c (a ++ b) ≡ occurrences c a + occurrences c b
+pub occurrences-append : (c : ℕ) (a b : List ℕ) → occurrences c (a ++ b) ≡ occurrences c a + occurrences c b
 unfolding occurrences
 occurrences-append c [] b = omega arith
 occurrences-append c (x ∷ a) b = omega (arith, occurrences-append c a b)

@@ -1,11 +1,11 @@
--- The seven jobs, each one definition whose lines are its refusals in document 01's order. `room`
+-- The seven jobs, each one definition whose lines are its refusals in the papers' order. `room`
 -- is the number of elements of the lent buffer.
 -- Document 01, "What is built", "The seven jobs and their refusals", "Row record"; document 02,
--- request 3. Assumes nothing.
-use Rattle.helpers.specs.Prelude.{ℕ, zero, suc, _+_, _-_, _*_, _/_, _%_, _≤_, Bool, true, _&&_, List, [], _∷_, _++_, leb, eqb, length, getD, take, drop}
+-- requests 3 and 12. Assumes nothing.
+use Rattle.helpers.specs.Prelude.{ℕ, zero, suc, _+_, _-_, _*_, _/_, _%_, _≤_, Bool, true, not, _&&_, List, [], _∷_, _++_, leb, eqb, length, getD, take, drop}
 use Rattle.helpers.specs.Answers.{if_then_else_, Each, Answer, refuse, accept, Test, refuses, passes, _then_, ask, every, whole, into}
 use Rattle.paper.specs.Iso15417.{row, check, stop, Look, is, worn, unknown, found, scanned}
-use Rattle.paper.specs.Crate.{isScalar, utf8Bytes, Parsed, stops, symbols, parse, spelled}
+use Rattle.paper.specs.Crate.{ź, isScalar, utf8Bytes, Parsed, stops, symbols, parse, spelled}
 
 -- ---- the limit
 -- "The limit is 1 ≤ n ≤ 255", n counting the START and not the check
@@ -34,15 +34,29 @@ unfoldable pub parsed : Parsed → (List ℕ → Answer) → Answer
 parsed (stops at) made = refuse 3 at
 parsed (symbols s) made = made s
 
--- "Encode: 1, 2, 3, 4, 5, each over the whole input before the next."
-unfoldable pub encode : ℕ → List ℕ → Answer
-encode room x =
+-- "Encode: 1, 2, 3, 4, 5, each over the whole input before the next."; `retired` is what is asked
+-- "after 3 and before 4"
+unfoldable pub encoder : Test → ℕ → List ℕ → Answer
+encoder retired room x =
     into room  -- 5, last
     (every isScalar 1 0 x then
     ask (leb 2 (utf8Bytes x)) 2 0 then
     parsed (parse x) λ s.  -- 3
+    retired then  -- 19
     ask (leb (length s) most) 4 (length s) then
     accept (length s) (row s))
+
+-- "document 01's definition before this request", which accepts ź (FNC2): nothing is retired
+unfoldable pub encodeWithFNC2 : ℕ → List ℕ → Answer
+encodeWithFNC2 room x = encoder passes room x
+
+-- is it any other code point than ź?
+unfoldable pub notFNC2 : ℕ → Bool
+notFNC2 c = not (eqb c ź)
+
+-- "Encode … no longer accepts ź. … Refusals: 19 at the first ź (its place), after 3 and before 4"
+unfoldable pub encode : ℕ → List ℕ → Answer
+encode room x = encoder (every notFNC2 19 0 x) room x
 
 -- ---- draw, spell, scan
 -- "a START number (103, 104 or 105)"

@@ -1,6 +1,6 @@
--- The starred labels of document 01, twelve cases, as one table under one statement of Promises. A
--- second table: symbol lists with Shift, and the bytes that scan answers.
--- Document 01, "Labels on each side of the line"; document 02, request 1. Assumes nothing.
+-- The starred labels of document 01, twelve cases, as one table under one statement of Promises. Two
+-- more tables: symbol lists with Shift, and the bytes that scan answers; labels for request 12.
+-- Document 01, "Labels on each side of the line"; document 02, requests 1 and 12. Assumes nothing.
 use Rattle.helpers.specs.Prelude.{ℕ, _*_, String, List, [], _∷_, _++_, length}
 use Rattle.helpers.specs.Answers.{Answer, refuse, accept, whole}
 use Rattle.paper.specs.Iso15417.{points, cells, stop}
@@ -72,3 +72,17 @@ shiftExpected ((s gives b) ∷ ls) = whole b ∷ shiftExpected ls
 unfoldable pub shiftAnswered : List ShiftLabel → List Answer
 shiftAnswered [] = []
 shiftAnswered ((s gives b) ∷ ls) = scan (2 * most) s ∷ shiftAnswered ls
+
+-- ---- request 12
+-- by hand from request 12: ź in sets B and A, the first of two, after a switch; where 3 refuses; and
+-- no ź, though the check or a pair is 97
+unfoldable pub retiredLabels : List Label
+retiredLabels =
+    ("Ɓź" also "Àź" ⇒ refuse 19 1) ∷
+    ("ƁAźBź" also "ĆƁźÀź" ⇒ refuse 19 2) ∷
+    ("Ɓź€" also "Ć1ź" ⇒ refuse 3 2) ∷
+    ("ƁźĆ1" also "ƁźAź\u{7f}" ⇒ refuse 3 4) ∷
+    ("Ćź" ⇒ refuse 3 1) ∷
+    ("ź" ⇒ refuse 3 0) ∷
+    ("ƁŻ" ⇒ symbolsAndCheck (104 ∷ 96 ∷ []) 97) ∷
+    ("Ć97" ⇒ symbolsAndCheck (105 ∷ 97 ∷ []) 99) ∷ []

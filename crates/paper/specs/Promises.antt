@@ -4,17 +4,17 @@ use Rattle.helpers.specs.Prelude.{ℕ, _+_, _*_, _/_, _%_, _<_, _≤_, _≡_, _
 use Rattle.helpers.specs.Answers.{Each, refuse, accept, Accepted, into}
 use Rattle.helpers.specs.Owes.{Owes}
 use Rattle.paper.specs.Iso15417.{points, Set, before, A, B, C, is, worn, unknown, barCells, ascii, SHIFT, cells, count, row, pattern, found, column, startOf, digits, other, scanned}
-use Rattle.paper.specs.Crate.{À, Ɓ, Ć, Ź, ź, Ż, ż, Ž, ÷, symbols, parse, letters, spans, numberIn, pointIn}
+use Rattle.paper.specs.Crate.{À, Ɓ, Ć, Ź, ź, Ż, ż, Ž, ÷, stops, symbols, parse, letters, spans, numberIn, pointIn}
 use Rattle.paper.specs.Settle.{settle, inside, occurrences, withoutŹ}
 use Rattle.paper.specs.Chars.{chars, entry}
 use Rattle.paper.specs.Rules.{PatternRule, NoPattern, spot, differences, message, writes, sends, switches, shifts}
 use Rattle.paper.specs.Damage.{blocksOf, redrawn, verdict, flipped, flippedVerdict}
-use Rattle.paper.specs.Jobs.{SymbolList, most, encode, draw, read, spell, scan, pack, unpack}
+use Rattle.paper.specs.Jobs.{SymbolList, most, encodeWithFNC2, encode, draw, read, spell, scan, pack, unpack}
 use Rattle.paper.specs.Shift.{unshifted, scanUnshifted, setAfter, AOrB, hasShift, NoTextFirst}
-use Rattle.paper.specs.Labels.{answered, expected, starred, shiftAnswered, shiftExpected, shiftLabels}
+use Rattle.paper.specs.Labels.{answered, expected, starred, shiftAnswered, shiftExpected, shiftLabels, retiredLabels}
 
--- demands 1, 2 and 3, what document 01 says of spelling, scanning and records, and requests 1 and 3
--- of document 02
+-- demands 1, 2 and 3, what document 01 says of spelling, scanning and records, and requests 1, 3 and
+-- 12 of document 02
 pub record Promises : Type 0 where
   -- ---- the tables
   -- The flat table has 106 entries of eleven cells: the standard's widths, drawn in turn.
@@ -50,7 +50,7 @@ pub record Promises : Type 0 where
   -- ---- demand 1, of each job
   -- What a job owes its caller (helpers, Owes): the numbers that it refuses by, and the most
   -- elements that it ever writes: cells, symbols, code points or bytes. No row exceeds 2,829 cells.
-  pub encode-owes : Owes encode (1 ∷ 2 ∷ 3 ∷ 4 ∷ 5 ∷ []) 2829
+  pub encode-owes : Owes encode (1 ∷ 2 ∷ 3 ∷ 19 ∷ 4 ∷ 5 ∷ []) 2829
   pub draw-owes : Owes draw (10 ∷ 13 ∷ 5 ∷ []) 2829
   pub read-owes : Owes read (10 ∷ 11 ∷ 12 ∷ 16 ∷ 13 ∷ 15 ∷ 14 ∷ 5 ∷ []) 255
   pub spell-owes : Owes spell (10 ∷ 13 ∷ 5 ∷ []) 509
@@ -66,12 +66,13 @@ pub record Promises : Type 0 where
   pub unpack-size : (room : ℕ) (rec : List ℕ) (n : ℕ) (cs : List ℕ) → unpack room rec ≡ accept n cs
       → (n ≡ length cs) × (length cs ≡ 11 * getD rec 1 0 + 24) × (length rec ≡ 2 + (length cs + 7) / 8)
   -- ---- encode, and the inputs that give one row
-  -- Encode accepts exactly the inputs that parse within limit and room, and writes their row.
-  pub encode-exactly : (room : ℕ) (x : List ℕ) (n : ℕ) (r : List ℕ)
-      → (encode room x ≡ accept n r) ↔ ((s : List ℕ) × (parse x ≡ symbols s) × (n ≡ length s) × (n ≤ most) × (r ≡ row s) × (length r ≤ room))
-  -- Demand 3: two accepted inputs give the same row exactly if they become equal once every Ź
-  -- inside a pair is moved ahead of the pair.
-  pub same-row : (room room′ : ℕ) (x y : List ℕ) (n m : ℕ) (r q : List ℕ) → encode room x ≡ accept n r → encode room′ y ≡ accept m q
+  -- Document 01's encoder accepts exactly the inputs that parse within limit and room, and writes
+  -- their row.
+  pub encodeWithFNC2-exactly : (room : ℕ) (x : List ℕ) (n : ℕ) (r : List ℕ)
+      → (encodeWithFNC2 room x ≡ accept n r) ↔ ((s : List ℕ) × (parse x ≡ symbols s) × (n ≡ length s) × (n ≤ most) × (r ≡ row s) × (length r ≤ room))
+  -- Demand 3, in which "the encoder" is document 01's (request 12): two accepted inputs give the
+  -- same row exactly if they become equal once every Ź inside a pair is moved ahead of the pair.
+  pub same-row : (room room′ : ℕ) (x y : List ℕ) (n m : ℕ) (r q : List ℕ) → encodeWithFNC2 room x ≡ accept n r → encodeWithFNC2 room′ y ≡ accept m q
       → (r ≡ q) ↔ (settle x ≡ settle y)
   -- Settling leaves no Ź inside a pair, keeps every code point as often as before and all but Ź in
   -- their order, and changes nothing the second time or where no Ź stands inside a pair.
@@ -80,11 +81,30 @@ pub record Promises : Type 0 where
   pub settle-order : (x : List ℕ) → withoutŹ (settle x) ≡ withoutŹ x
   pub settle-once : (x : List ℕ) → settle (settle x) ≡ settle x
   pub settle-still : (x : List ℕ) → inside x ≡ false → settle x ≡ x
+  -- ---- request 12: ź, which is FNC2, is retired
+  -- Encode is document 01's encoder, answer for answer, for every input without ź, and for every
+  -- input that does not parse, wherever its ź stand;
+  pub retired-without : (room : ℕ) (x : List ℕ) → occurrences ź x ≡ 0 → encode room x ≡ encodeWithFNC2 room x
+  pub retired-stopped : (room : ℕ) (x : List ℕ) (at : ℕ) → parse x ≡ stops at → encode room x ≡ encodeWithFNC2 room x
+  -- an input with ź that parses is refused by 19, whatever its number of symbols and the room;
+  pub retired-refused : (room : ℕ) (x s : List ℕ) → parse x ≡ symbols s → occurrences ź x ≢ 0 → (at : ℕ) × (encode room x ≡ refuse 19 at)
+  -- the place is that of the first ź, and no other input is refused by 19.
+  pub retired-exactly : (room : ℕ) (x : List ℕ) (at : ℕ)
+      → (encode room x ≡ refuse 19 at) ↔ (((s : List ℕ) × (parse x ≡ symbols s)) × (at < length x) × (getD x at 0 ≡ ź) × (occurrences ź (take at x) ≡ 0))
+  -- So encode accepts exactly what document 01's encoder accepts and has no ź, with the same row.
+  pub retired-accepted : (room : ℕ) (x : List ℕ) (n : ℕ) (r : List ℕ)
+      → (encode room x ≡ accept n r) ↔ ((occurrences ź x ≡ 0) × (encodeWithFNC2 room x ≡ accept n r))
+  -- The rows that it writes are exactly those of the lists whose every 97 stands in set C: no row
+  -- holds a data symbol 97 in set A or B.
+  pub retired-rows : (room : ℕ) (s : List ℕ) → SymbolList s → length (row s) ≤ room
+      → ((x : List ℕ) × (encode room x ≡ accept (length s) (row s))) ↔ ((i : ℕ) → getD s i 0 ≡ 97 → setAfter before (take i s) ≡ C)
+  -- Labels, by hand from request 12: what encode answers to each.
+  pub retired-labels : answered retiredLabels ≡ expected retiredLabels
   -- ---- read
-  -- Demand 3: read, lent room enough, accepts a row exactly if encode writes it for some input, and
-  -- returns that input's symbols.
+  -- Demand 3, "the encoder" being document 01's: read, lent room enough, accepts a row exactly if
+  -- that encoder writes it for some input, and returns that input's symbols.
   pub read-exactly : (room : ℕ) (r : List ℕ) (n : ℕ) (s : List ℕ) → n ≤ room
-      → (read room r ≡ accept n s) ↔ ((x : List ℕ) × (parse x ≡ symbols s) × (encode (length r) x ≡ accept n r))
+      → (read room r ≡ accept n s) ↔ ((x : List ℕ) × (parse x ≡ symbols s) × (encodeWithFNC2 (length r) x ≡ accept n r))
   -- Draw and read undo each other.
   pub read-of-draw : (room : ℕ) (s : List ℕ) (n : ℕ) (r : List ℕ) → draw room s ≡ accept n r → (room′ : ℕ) → n ≤ room′ → read room′ r ≡ accept n s
   pub draw-of-read : (room : ℕ) (r : List ℕ) (n : ℕ) (s : List ℕ) → read room r ≡ accept n s → (room′ : ℕ) → length r ≤ room′ → draw room′ s ≡ accept n r
@@ -104,12 +124,16 @@ pub record Promises : Type 0 where
   pub flipped-refused : (room room′ : ℕ) (r : List ℕ) (n : ℕ) (s : List ℕ) → read room r ≡ accept n s → (i : ℕ) → i < length r
       → Accepted (read room′ (flipped i r)) → ⊥
   -- ---- spell and scan
-  -- What spell writes encodes to the list's row and has no Ź inside a pair, and no other input
-  -- does; it has at most 509 code points.
+  -- What spell writes encodes to the list's row, by document 01's encoder, and has no Ź inside a
+  -- pair, and no other input does; it has at most 509 code points.
   pub spell-encodes : (room : ℕ) (s : List ℕ) (n : ℕ) (x : List ℕ) → spell room s ≡ accept n x
-      → (encode (length (row s)) x ≡ accept (length s) (row s)) × (inside x ≡ false) × (n ≡ length x) × (n ≤ 509)
+      → (encodeWithFNC2 (length (row s)) x ≡ accept (length s) (row s)) × (inside x ≡ false) × (n ≡ length x) × (n ≤ 509)
   pub spell-only : (room room′ : ℕ) (s : List ℕ) (n : ℕ) (x y : List ℕ) (k : ℕ) → spell room s ≡ accept n x
-      → encode room′ y ≡ accept k (row s) → inside y ≡ false → y ≡ x
+      → encodeWithFNC2 room′ y ≡ accept k (row s) → inside y ≡ false → y ≡ x
+  -- Request 12: spell accepts every symbol list for which there is room, one with 97 in set A or B
+  -- too, and no other, and writes that input.
+  pub spell-exactly : (room : ℕ) (s : List ℕ) (n : ℕ) (x : List ℕ)
+      → (spell room s ≡ accept n x) ↔ (SymbolList s × (parse x ≡ symbols s) × (inside x ≡ false) × (n ≡ length x) × (n ≤ room))
   -- Scan's bytes are below 128.
   pub scan-seven-bits : (room : ℕ) (s : List ℕ) (n : ℕ) (b : List ℕ) → scan room s ≡ accept n b → Each (λ c. c < 128) b
   -- Request 1: wherever a Shift stands in set A or B, a number below 96 right after it gives what

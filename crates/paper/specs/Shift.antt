@@ -1,5 +1,5 @@
 -- What the promises on Shift speak of: document 01's scanner reading before request 1, where Shift
--- did nothing, and where a Shift stands.
+-- did nothing, and where a Shift stands. `setAfter` serves a promise on FNC2 too.
 -- Document 02, request 1; document 01, "Spelling and scanner reading". Assumes nothing.
 use Rattle.helpers.specs.Prelude.{ℕ, _≤_, _≡_, _⊎_, Bool, false, _||_, List, [], _∷_, _++_}
 use Rattle.helpers.specs.Answers.{Answer, whole}

@@ -1,7 +1,8 @@
 // Replays a list of what the crate barcoders 2.0.0 answers. A line of the input has the code
 // points of a label, as the label program takes them, and gives one line out: `Length` or
 // `Character`, the crate's errors, or the row's cells and then the numbers of its symbols and of
-// its check. rust/answers makes the list by running the crate.
+// its check; for a ź that the crate takes, refusal 19 as the label program gives it. rust/answers
+// makes the list by running the crate.
 ghost use Prim.Native.Nat.{_≤_};
 ghost use lib.ListN.{length};
 use helpers::Answer;

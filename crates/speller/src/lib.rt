@@ -1,5 +1,5 @@
-// A symbol list written out: as the code points that encode to it, or as the bytes that a scanner
-// sends for it.
+// A symbol list written out: as the code points that spell it, or as the bytes that a scanner sends
+// for it.
 ghost use Prim.Native.Nat.{_+_, _<_, _≤_};
 ghost use mathlib.Core.Path.{_≡_};
 ghost use lib.ListN.{length};
@@ -272,8 +272,8 @@ fn write_bytes(symbols: &[u8], out: &mut [u8])
     }
 }
 
-// Spell: a symbol list to code points, the one input that encodes to it and has no Ź inside a pair.
-// Refusals 10, 13, 5.
+// Spell: a symbol list to code points, the one input that encodes to it and has no Ź inside a pair;
+// the encoder meant is document 01's, which still takes ź. Refusals 10, 13, 5.
 pub fn spell(symbols: &[u8], out: &mut [u32]) -> Answer
     ensures { λ r. ⌜ Gave (spell (length (now (out .entry))) (now (symbols .entry))) (numberOf r) (secondOf r) (now (out .entry)) (now (out .exit)) ⌝ }
 {

@@ -1,3 +1,4 @@
 pub mod Spans
+pub mod Lookups
 pub mod Parsing
 pub mod Stopping

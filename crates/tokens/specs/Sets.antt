@@ -10,7 +10,7 @@ use Rattle.paper.specs.Crate.{À, Ɓ, Ć}
 use Rattle.tokens.specs.declared.CharacterSet.{CharacterSet}
 use Rattle.tokens.specs.declared.CharacterSet.the-variants.{A, B, C, None}
 use Rattle.tokens.specs.declared.Lookup.{Lookup}
-use Rattle.tokens.specs.declared.Lookup.the-variants.{Unit, Nothing}
+use Rattle.tokens.specs.declared.Lookup.the-variants.{Unit, Retired, Nothing}
 
 -- the set of a case
 unfoldable pub setOf : CharacterSet → Set
@@ -24,7 +24,7 @@ setOf None = Iso.before
 unfoldable pub named : ℕ → Set
 named c = if eqb c À then Iso.A else if eqb c Ɓ then Iso.B else if eqb c Ć then Iso.C else Iso.before
 
--- what `lookup` answers
-unfoldable pub numbered : Lookup → Option ℕ
-numbered (Unit m) = some m
-numbered Nothing = none
+-- what `lookup` answers for a number: 97 is FNC2, set apart
+unfoldable pub lookupOf : Option ℕ → Lookup
+lookupOf none = Nothing
+lookupOf (some m) = if eqb m 97 then Retired else Unit m

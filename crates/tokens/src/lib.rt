@@ -4,7 +4,7 @@ ghost use mathlib.Core.Path.{_≡_};
 ghost use Rattle.helpers.specs.Contracts.{answers};
 ghost use Rattle.paper.specs.Iso15417.{next, startOf};
 ghost use Rattle.paper.specs.Crate.{spans, numberIn};
-ghost use Rattle.tokens.specs.Sets.{setOf, named, numbered};
+ghost use Rattle.tokens.specs.Sets.{setOf, named, lookupOf};
 ghost use Rattle.tokens.specs.Stopped.{stoppedAt};
 use helpers::Answer;
 use helpers::Refusal;
@@ -21,9 +21,11 @@ pub enum CharacterSet {
     None,
 }
 
-// What a code point is in a set: a symbol's number, or nothing.
+// What a code point is in a set: a symbol's number; FNC2, which is retired and whose number is 97;
+// or nothing.
 pub enum Lookup {
     Unit(u8),
+    Retired,
     Nothing,
 }
 
@@ -62,7 +64,7 @@ impl CharacterSet {
     // The number of a code point in the set; before the START only the three names of the sets have
     // one.
     pub fn lookup(self, c: u32) -> Lookup
-        ensures { λ r. ⌜ numbered r ≡ numberIn (spans (setOf self)) c ⌝ }
+        ensures { λ r. ⌜ r ≡ lookupOf (numberIn (spans (setOf self)) c) ⌝ }
     {
         match self {
             CharacterSet::A => numbers::in_a(c),

@@ -2,10 +2,10 @@
 ghost use Prim.Native.Nat.{_<_};
 ghost use mathlib.Core.Path.{_≡_};
 ghost use lib.ListN.{set};
-ghost use Rattle.paper.specs.Crate.{spans, numberIn, free, held, digit, pairs, listed, step, parse, finished};
+ghost use Rattle.paper.specs.Crate.{spans, numberIn, free, held, digit, pairs, listed, step, finished};
 ghost use Rattle.paper.proofs.Moves.{Sound};
 ghost use Rattle.tokens.specs.Sets.{setOf};
-ghost use Rattle.tokens.specs.Tokens.{stateOf, stepOf, Tokens};
+ghost use Rattle.tokens.specs.Tokens.{stateOf, Does, Tokens};
 use crate::CharacterSet;
 use crate::Lookup;
 
@@ -17,16 +17,18 @@ enum State {
 }
 
 // What one code point does: parsing stops at it, it is held, or a symbol is written and leaves a
-// state.
+// state. ź is set apart: its symbol is FNC2, which leaves the state as it is.
 enum Token {
     Halt,
     Hold(u8),
     Write(u8, State),
+    Retired,
 }
 
-// The place where parsing stops, or the number of symbols.
+// The place where parsing stops; else the place of the first ź, or the number of symbols.
 pub enum Parsed {
     Stops(usize),
+    Retired(usize),
     Symbols(usize),
 }
 
@@ -52,17 +54,18 @@ fn has_pairs(set: CharacterSet) -> bool
 
 // A code point that has a number in the set, which may switch the set.
 fn unit(set: CharacterSet, c: u32) -> Token
-    ensures { λ r. ⌜ stepOf r ≡ listed (setOf set) (numberIn (spans (setOf set)) c) ⌝ }
+    ensures { λ r. ⌜ Does (listed (setOf set) (numberIn (spans (setOf set)) c)) (free (setOf set)) c r ⌝ }
 {
     match set.lookup(c) {
         Lookup::Unit(m) => Token::Write(m, State::Free(set.next(m))),
+        Lookup::Retired => Token::Retired,
         Lookup::Nothing => Token::Halt,
     }
 }
 
 // A code point where no digit is held: the first digit of a pair, or one that has a number.
 fn step_free(set: CharacterSet, c: u32) -> Token
-    ensures { λ r. ⌜ stepOf r ≡ step (free (setOf set)) c ⌝ }
+    ensures { λ r. ⌜ Does (step (free (setOf set)) c) (free (setOf set)) c r ⌝ }
 {
     if !has_pairs(set) {
         return unit(set, c);
@@ -77,7 +80,7 @@ fn step_free(set: CharacterSet, c: u32) -> Token
 // stays held.
 fn step_held(d: u8, c: u32) -> Token
     requires { ⌜ d < 10 ⌝ }
-    ensures { λ r. ⌜ stepOf r ≡ step (held d) c ⌝ }
+    ensures { λ r. ⌜ Does (step (held d) c) (held d) c r ⌝ }
 {
     if is_digit(c) {
         return Token::Write(10 * d + ((c - 48) as u8), State::Free(CharacterSet::C));
@@ -91,7 +94,7 @@ fn step_held(d: u8, c: u32) -> Token
 // One code point.
 fn step(state: State, c: u32) -> Token
     requires { ⌜ Sound (stateOf state) ⌝ }
-    ensures { λ r. ⌜ stepOf r ≡ step (stateOf state) c ⌝ }
+    ensures { λ r. ⌜ Does (step (stateOf state) c) (stateOf state) c r ⌝ }
 {
     match state {
         State::Free(set) => step_free(set, c),
@@ -122,12 +125,15 @@ fn push(list: &mut [u8], n: usize, m: u8)
     list[n] = m;
 }
 
-// The symbols of a text, stored as far as the list reaches and counted to the end.
+// The symbols of a text, stored as far as the list reaches and counted to the end. If the text has a
+// ź, the place of the first is returned instead, and what stands in the list means nothing: ź is
+// neither stored nor counted.
 pub fn parse(text: &[u32], list: &mut [u8]) -> Parsed
-    ensures { λ r. ⌜ Tokens (parse (now (text .entry))) r (now (list .entry)) (now (list .exit)) ⌝ }
+    ensures { λ r. ⌜ Tokens r (now (text .entry)) (now (list .entry)) (now (list .exit)) ⌝ }
 {
     let mut state = State::Free(CharacterSet::None);
     let mut n: usize = 0;
+    let mut first = text.len(); // the place of the first ź, once there is one
     let mut i: usize = 0;
     while i < text.len() {
         match step(state, text[i]) {
@@ -142,11 +148,17 @@ pub fn parse(text: &[u32], list: &mut [u8]) -> Parsed
                 n += 1;
                 state = next;
             }
+            Token::Retired => {
+                first = helpers::shorter(first, i);
+            }
         }
         i += 1;
     }
-    if is_finished(state) {
-        return Parsed::Symbols(n);
+    if !is_finished(state) {
+        return Parsed::Stops(i);
     }
-    Parsed::Stops(i)
+    if first < i {
+        return Parsed::Retired(first);
+    }
+    Parsed::Symbols(n)
 }

@@ -21,6 +21,11 @@ fn ask(text: &str) -> Result<Vec<u8>, String> {
     }
 }
 
+/// The place of the first ź (FNC2) of a text.
+pub fn fnc2(text: &str) -> Option<usize> {
+    text.chars().position(|c| c == 'ź')
+}
+
 /// The cells of a row as digits.
 fn digits(row: &[u8]) -> String {
     row.iter().map(|cell| char::from(b'0' + cell)).collect()
@@ -69,6 +74,20 @@ impl Asker {
     /// The cells of an accepted text's row as digits.
     pub fn cells(&self, text: &str) -> String {
         digits(&ask(text).unwrap())
+    }
+
+    /// The place of the first ź of a text that the crate accepts. This library refuses it by 19.
+    pub fn retired(&self, text: &str) -> Option<usize> {
+        fnc2(text).filter(|_| self.accepts(text))
+    }
+
+    /// The line of the list: `19` and the place of the first ź if the crate accepts the text and it
+    /// has one, otherwise the crate's answer.
+    pub fn listed(&self, text: &str) -> String {
+        match self.retired(text) {
+            Some(place) => format!("19 {place}"),
+            None => self.line(text),
+        }
     }
 
     /// The crate's answer as a line: the name of its error, or the row's cells and then the numbers

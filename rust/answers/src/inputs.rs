@@ -1,5 +1,5 @@
 //! The inputs of the list, in their order, each of them once.
-use crate::ask::Asker;
+use crate::ask::{fnc2, Asker};
 use std::collections::HashSet;
 
 /// The code points that begin a label: the STARTs of sets A, B and C.
@@ -71,6 +71,34 @@ const STRANGERS: &str = "\
     \u{FF10}\u{FF11}\u{FF19}\u{1D7CE}\u{1D7CF}\u{1D7FF}\u{A0}\u{300}\u{7FF}\u{800}\u{20AC}\
     \u{D7FF}\u{E000}\u{FEFF}\u{FFFD}\u{FFFF}\u{10000}\u{10FFFF}";
 
+/// Texts with ź that stand for a kind of their own: the first of several, after a switch, after and
+/// before the pair 97, beside a code point that has no number there, in set C, with a digit left
+/// over. In two of them 97 is a pair or a check, and there is no ź.
+const RETIRED: [&str; 22] = [
+    "ƁAźBź",
+    "ÀźAź",
+    "Ć97Ɓź",
+    "Ć97Àź",
+    "Ć9Ź7Ɓaź",
+    "ÀźĆ97",
+    "ƁźĆ9797Àź",
+    "ÀŽź",
+    "ƁŹźŻżŽ÷",
+    "Ɓź€",
+    "Ɓ€ź",
+    "Àźa",
+    "ÀaƁź",
+    "ƁźƁ",
+    "ƁźĆź",
+    "ƁźĆ1",
+    "ƁźĆ12Ź3",
+    "Ć12ź",
+    "Ć1ź2",
+    "źƁ",
+    "ƁŻ",
+    "Ć97",
+];
+
 /// Twenty code points of different kinds.
 const FEW: &str = "019 A_`a~\u{0}\u{1F}\u{7F}÷ÀƁĆŹżŽ€";
 
@@ -110,10 +138,10 @@ struct List<'a> {
 
 impl List<'_> {
     /// Adds an input if it is new. For more than 255 symbols the crate makes a row and this library
-    /// does not (docs/DIFFERENCES.md): such an input may not be in the list.
+    /// does not (docs/DIFFERENCES.md): such an input may not be in the list, unless it has a ź.
     fn add(&mut self, text: impl Into<String>) {
         let text = text.into();
-        if let Ok(symbols) = self.asker.symbols(&text) {
+        if let (Ok(symbols), None) = (self.asker.symbols(&text), fnc2(&text)) {
             assert!(
                 symbols.len() <= 256,
                 "{} symbols and a check",
@@ -268,6 +296,38 @@ impl List<'_> {
         self.add(format!("Ć7{}7{}", "Ź".repeat(100), "12".repeat(153)));
     }
 
+    /// Texts with ź: each START with one and with two of nine code points; those that stand for a
+    /// kind of their own; long ones, below and above the limit; and random labels with one or two ź
+    /// put in.
+    fn retired(&mut self, dice: &mut Dice) {
+        let few = || "97aÀƁĆŹź€".chars();
+        for start in STARTS {
+            self.add(format!("{start}ź"));
+            for other in few() {
+                self.add(format!("{start}{other}ź"));
+                self.add(format!("{start}ź{other}"));
+            }
+        }
+        for text in RETIRED {
+            self.add(text);
+        }
+        for n in [102, 103, 205, 206, 253, 254, 255, 300] {
+            self.add(format!("Ɓ{}ź", "A".repeat(n - 1)));
+            self.add(format!("Àź{}", "A".repeat(n - 1)));
+            self.add(format!("Ć{}Ɓź", "97".repeat(n - 1)));
+            self.add(format!("Ɓź{}€", "A".repeat(n - 1)));
+        }
+        let own = own_letters(self.asker);
+        for _ in 0..80 {
+            let symbols = 2 + dice.below(22);
+            let mut text: Vec<char> = random_label(&own, dice, symbols).chars().collect();
+            for _ in 0..1 + dice.below(2) {
+                text.insert(1 + dice.below(text.len()), 'ź');
+            }
+            self.add(text.into_iter().collect::<String>());
+        }
+    }
+
     /// Random labels that are accepted, and texts of any code points after a START.
     fn random(&mut self, dice: &mut Dice) {
         let own = own_letters(self.asker);
@@ -317,12 +377,13 @@ impl List<'_> {
     }
 }
 
-/// For each set, the letters and pairs that the crate makes one symbol of; without the switches.
+/// For each set, the letters and pairs that the crate makes one symbol of; without the switches and
+/// without ź.
 fn own_letters(asker: &Asker) -> [Vec<String>; 3] {
     STARTS.map(|start| {
         let mut own: Vec<String> = letters()
             .iter()
-            .filter(|c| !STARTS.contains(c))
+            .filter(|&&c| !STARTS.contains(&c) && c != 'ź')
             .map(|c| c.to_string())
             .collect();
         own.extend((0..100).map(|pair| format!("{pair:02}")));
@@ -377,5 +438,6 @@ pub fn inputs(asker: &Asker) -> Vec<String> {
     list.long();
     list.random(&mut dice);
     list.damaged(&mut dice);
+    list.retired(&mut dice);
     list.texts
 }

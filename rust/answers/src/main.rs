@@ -21,7 +21,7 @@ use std::process::ExitCode;
 /// The most bytes of a line that crates/replay reads.
 const MOST_BYTES: usize = 4096;
 
-/// The two files of the list, as the crate answers today.
+/// The two files of the list, as the crate answers today, with 19 where it takes a ź.
 struct Files {
     stdin: String,
     stdout: String,
@@ -34,18 +34,22 @@ fn make() -> Files {
         stdin: String::new(),
         stdout: String::new(),
     };
-    let mut counts = [("rows", 0), ("Character", 0), ("Length", 0)];
+    let mut counts = [("rows", 0), ("Character", 0), ("Length", 0), ("retired", 0)];
     let (mut numbers, mut checks) = (HashSet::new(), HashSet::new());
     for text in inputs::inputs(&asker) {
-        if let Ok(symbols) = asker.symbols(&text) {
-            let (check, list) = symbols.split_last().unwrap();
-            checks.insert(*check);
-            numbers.extend(list.iter().copied());
-        }
-        let (input, answer) = (points::line_of(&text), asker.line(&text));
+        let (input, answer) = (points::line_of(&text), asker.listed(&text));
         assert!(input.len() <= MOST_BYTES, "a line of {} bytes", input.len());
-        let kind = counts.iter().position(|(name, _)| *name == answer);
-        counts[kind.unwrap_or(0)].1 += 1;
+        let kind = match (asker.retired(&text), asker.symbols(&text)) {
+            (Some(_), _) => 3,
+            (None, Err(name)) => 1 + usize::from(name == "Length"),
+            (None, Ok(symbols)) => {
+                let (check, list) = symbols.split_last().unwrap();
+                checks.insert(*check);
+                numbers.extend(list.iter().copied());
+                0
+            }
+        };
+        counts[kind].1 += 1;
         files.stdin += &(input + "\n");
         files.stdout += &(answer + "\n");
     }
@@ -104,16 +108,16 @@ fn write(folder: &Path) -> Result<(), String> {
     Ok(())
 }
 
-/// Compares the list in a folder with what the crate answers.
+/// Compares the list in a folder with what it should be.
 fn check(folder: &Path) -> Result<(), String> {
     let wrong = pairs(folder)
         .iter()
         .filter(|(path, want)| differs(path, want))
         .count();
     if wrong > 0 {
-        return Err("the list is not what the crate answers".to_string());
+        return Err("the list is not what the crate answers, with 19 for ź".to_string());
     }
-    println!("the list is what the crate answers");
+    println!("the list is what the crate answers, with 19 for ź");
     Ok(())
 }
 

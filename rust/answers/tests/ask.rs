@@ -1,4 +1,4 @@
-//! `--ask`: answers as in the list, and stops at a line that it cannot read.
+//! `--ask`: answers as in the list, but for ź, and stops at a line that it cannot read.
 use std::io::Write;
 use std::process::{Command, Output, Stdio};
 
@@ -27,14 +27,39 @@ fn ask(lines: String) -> Output {
     output
 }
 
+/// Where the list has 19 and the place of the first ź (17A), the crate answers with a row; all
+/// other lines are what it answers.
 #[test]
 fn the_answers_are_those_of_the_list() {
-    let output = ask(list("stdin"));
+    let (inputs, listed) = (list("stdin"), list("stdout"));
+    let output = ask(inputs.clone());
     assert!(output.status.success());
-    assert!(
-        output.stdout == list("stdout").as_bytes(),
-        "another answer than in the list"
+    let said = String::from_utf8(output.stdout).expect("text");
+    let lines = inputs.lines().zip(listed.lines()).zip(said.lines());
+    let mut retired = 0;
+    for ((input, listed), said) in lines {
+        let fnc2 = input.split(' ').position(|point| point == "17A");
+        match fnc2.filter(|_| said.starts_with('1')) {
+            Some(place) => assert_eq!(listed, format!("19 {place}"), "{input}"),
+            None => assert_eq!(listed, said, "{input}"),
+        }
+        retired += usize::from(listed.starts_with("19 "));
+    }
+    let count = inputs.lines().count();
+    assert_eq!(
+        (listed.lines().count(), said.lines().count()),
+        (count, count)
     );
+    assert!(retired > 100, "{retired}");
+}
+
+/// What the crate itself answers to a text with ź.
+#[test]
+fn the_crate_takes_fnc2() {
+    let output = ask("181 17A\n".to_string());
+    assert!(output.status.success());
+    let said = String::from_utf8(output.stdout).expect("text");
+    assert!(said.ends_with(" 104 97 98\n"), "{said}");
 }
 
 #[test]

@@ -3,7 +3,7 @@
 //!
 //! It writes what the label program writes, with one difference: the crate does not give the place
 //! where parsing stops, so that the second number of refusal 3 is a `?` here. It holds a whole line
-//! in memory, however long the line is.
+//! in memory, however long the line is. The crate takes ź (FNC2), so the filter refuses it itself.
 use barcoders::error::Error;
 use barcoders::sym::code128::Code128;
 use std::io::{self, BufRead, Write};
@@ -54,9 +54,10 @@ fn write_text(text: &str, out: &mut Vec<u8>) -> io::Result<()> {
     match Code128::new(text).map(|barcode| barcode.encode()) {
         Err(Error::Length) => write!(out, "2 0"),
         Err(_) => write!(out, "3 ?"),
-        Ok(row) => match (row.len() - 24) / 11 {
-            n if n > MOST => write!(out, "4 {n}"),
-            n => {
+        Ok(row) => match ((row.len() - 24) / 11, text.chars().position(|c| c == 'ź')) {
+            (_, Some(place)) => write!(out, "19 {place}"),
+            (n, None) if n > MOST => write!(out, "4 {n}"),
+            (n, None) => {
                 write!(out, "0 {n} ")?;
                 out.extend(row.iter().map(|cell| b'0' + cell));
                 Ok(())

@@ -39,7 +39,8 @@ pub enum Kind {
     B,
     /// Set C, the pairs 0 to 99.
     C,
-    /// Any START and then any data numbers, so with function symbols and switches.
+    /// Any START and then any data numbers but 97, so with function symbols and switches. 97 is
+    /// FNC2 in sets A and B, which encode refuses.
     Mixed,
     /// Set A or B; every fourth data number is 98, a Shift, and the others are below 96.
     Shift,
@@ -89,6 +90,7 @@ pub fn list(random: &mut Numbers, kind: Kind, n: usize) -> Vec<u8> {
     let mut symbols = vec![start];
     symbols.extend((1..n).map(|place| match (kind, place % 4) {
         (Kind::Shift, 0) => 98,
+        (Kind::Mixed, _) => Some(random.byte(end)).filter(|&s| s != 97).unwrap_or(96),
         _ => random.byte(end),
     }));
     symbols

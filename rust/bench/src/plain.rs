@@ -9,6 +9,9 @@ pub type Answer = (u32, usize);
 /// Ź, which is FNC1: the only code point that is allowed between the digits of a pair.
 const FNC1: u32 = 0x179;
 
+/// ź, which is FNC2: it parses in sets A and B, and encode refuses it.
+const FNC2: u32 = 0x17A;
+
 /// The current character set; `None` before the START.
 #[derive(Clone, Copy, PartialEq, Eq)]
 enum Set {
@@ -26,7 +29,7 @@ impl Set {
             (Set::A, 0..=0x1F) => c + 64,
             (Set::B, 0xF7) => 95,
             (Set::A | Set::B, 0x17B) => 96,
-            (Set::A | Set::B, 0x17A) => 97,
+            (Set::A | Set::B, FNC2) => 97,
             (Set::A | Set::B, 0x17D) => 98,
             (Set::A | Set::B, 0x106) => 99,
             (Set::A | Set::C, 0x181) | (Set::B, 0x17C) => 100,
@@ -128,7 +131,10 @@ pub fn unpack(record: &[u8], row: &mut [u8]) -> Answer {
 /// 2, so these are tested only where parsing stops.
 fn try_encode(text: &[u32], row: &mut [u8]) -> Result<usize, Answer> {
     let mut list = [0; MOST];
-    let n = parse(text, &mut list).map_err(|place| stopped(text, place))?;
+    let (n, retired) = parse(text, &mut list).map_err(|place| stopped(text, place))?;
+    if let Some(place) = retired {
+        return Err((19, place));
+    }
     let symbols = list.get(..n).ok_or((4, n))?;
     write_row(symbols, row)
 }
@@ -150,9 +156,10 @@ fn digit(c: u32) -> Option<u8> {
     matches!(c, 0x30..=0x39).then(|| (c - 0x30) as u8)
 }
 
-/// The number of symbols of a text, or the place where parsing stops. The list gets as many of the
-/// symbols as it has room for.
-fn parse(text: &[u32], list: &mut [u8; MOST]) -> Result<usize, usize> {
+/// The number of symbols of a text and the place of its first ź, or the place where parsing stops.
+/// The list gets as many of the symbols as it has room for.
+fn parse(text: &[u32], list: &mut [u8; MOST]) -> Result<(usize, Option<usize>), usize> {
+    let mut retired = None;
     let mut set = Set::None;
     let mut held = None;
     let mut n = 0;
@@ -177,10 +184,13 @@ fn parse(text: &[u32], list: &mut [u8; MOST]) -> Result<usize, usize> {
         }
         n += 1;
         set = set.next(number);
+        if c == FNC2 {
+            retired.get_or_insert(i);
+        }
     }
     match (set, held) {
         (Set::None, _) | (_, Some(_)) => Err(text.len()),
-        _ => Ok(n),
+        _ => Ok((n, retired)),
     }
 }
 
@@ -310,7 +320,7 @@ fn letters(set: Set, number: u8) -> Said {
     let letter = match (set, number) {
         (Set::B, 95) => 0xF7,
         (Set::A | Set::B, 96) => 0x17B,
-        (Set::A | Set::B, 97) => 0x17A,
+        (Set::A | Set::B, 97) => FNC2,
         (Set::A | Set::B, 98) => 0x17D,
         (Set::A | Set::B, 99) | (Set::None, 105) => 0x106,
         (Set::A | Set::C, 100) | (Set::None, 104) => 0x181,

@@ -149,6 +149,38 @@ fn on_lists_with_a_shift() {
     assert_eq!(bytes, [0x61, 0x01, 0]);
 }
 
+/// Lists of a START and up to three numbers that have to do with 97: drawn, spelled and scanned;
+/// their rows read; their texts encoded, and refused by 19 where they have a ź.
+#[test]
+fn on_lists_with_97() {
+    const NUMBERS: [u8; 7] = [33, 65, 97, 98, 99, 100, 101];
+    let mut refused = 0;
+    for at in 0..3 * 7 * 7 * 7 {
+        let number = |place: usize| NUMBERS[at / 3 / place % 7];
+        let list = [103 + (at % 3) as u8, number(1), number(7), number(49)];
+        let l = label(list.to_vec());
+        same(&l.symbols, 9, slatmonief::draw, plain::draw);
+        same(&l.row, 9, slatmonief::read, plain::read);
+        same(&l.symbols, 9, slatmonief::spell, plain::spell);
+        same(&l.symbols, 9, slatmonief::scan, plain::scan);
+        let first = l.text.chars().position(|c| c == 'ź');
+        let answer = first.map_or((0, 4), |place| (19, place));
+        assert_eq!(
+            same(&l.points, 9, slatmonief::encode, plain::encode),
+            answer
+        );
+        refused += answer.0 / 19;
+    }
+    assert!(refused > 100);
+    let long: Vec<u32> = format!("Ć{}Ɓź", "97".repeat(300))
+        .chars()
+        .map(u32::from)
+        .collect();
+    assert_eq!(same(&long, 9, slatmonief::encode, plain::encode), (19, 602));
+    let stops = [&long[..], &[0x20AC]].concat();
+    assert_eq!(same(&stops, 9, slatmonief::encode, plain::encode), (3, 603));
+}
+
 #[test]
 fn on_damaged_texts_and_lists() {
     let mut random = Numbers::new(2);
@@ -166,7 +198,7 @@ fn on_damaged_texts_and_lists() {
     same(&[], 9, slatmonief::encode, plain::encode);
     same(&[0x41], 9, slatmonief::encode, plain::encode);
     assert!(
-        [0, 1, 2, 3, 4, 10, 13]
+        [0, 1, 2, 3, 4, 10, 13, 19]
             .iter()
             .all(|&number| seen[number] > 0),
         "{seen:?}"
@@ -232,4 +264,11 @@ fn the_filter_answers_as_the_label_program() {
     let mut out = Vec::new();
     filter::run(long.as_bytes(), &mut out).unwrap();
     assert_eq!(out, b"4 256\n?\n");
+    let retired = format!(
+        "181 17A\n181 17A 20AC\n106 17A\n181{} 17A",
+        " 41".repeat(300)
+    );
+    let mut out = Vec::new();
+    filter::run(retired.as_bytes(), &mut out).unwrap();
+    assert_eq!(out, b"19 1\n3 ?\n3 ?\n19 301\n");
 }

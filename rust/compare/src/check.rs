@@ -2,7 +2,7 @@
 use crate::ask::{self, Crate, MOST_DRAWN};
 use crate::face::{Answer, Face};
 use crate::listed;
-use crate::model::{accept, cells, refuse, Model, Said, LIMIT};
+use crate::model::{accept, cells, refuse, retired, Model, Said, LIMIT};
 use slatmonief::error::Error;
 use std::fmt::Debug;
 
@@ -26,11 +26,11 @@ pub enum Subject {
     Pack,
     /// Unpack, compared with the model.
     Unpack,
-    /// An accepted text: its row is read, its symbols are drawn and spelled, and Ź moved ahead of
-    /// its pair gives the same row.
+    /// A text that the crate accepts: its row is read, its symbols are drawn and spelled, and Ź
+    /// moved ahead of its pair gives the same row.
     TextLaw,
-    /// A symbol list that is drawn: its row is read, and its spelling is encoded by the library and
-    /// by the crate.
+    /// A symbol list that is drawn: its row is read, and its spelling is encoded by the crate and,
+    /// if it has no ź, by the library.
     ListLaw,
     /// A symbol list that is scanned: Shift changes neither the number of bytes nor refusal 5, and
     /// without Shift the bytes are as document 01 had them.
@@ -300,16 +300,18 @@ pub fn broken(subject: Subject, input: Vec<u32>, expected: String, got: String) 
     })
 }
 
-/// What encode must answer, from the crate's answer and the place of refusal 3.
-fn encode_said(said: &Crate, place: usize, room: usize) -> Said<u8> {
+/// What encode must answer to a text, from the crate's answer, the place of refusal 3 and, if the
+/// crate accepts the text, the place of its first ź.
+fn encode_said(text: &[u32], said: &Crate, place: usize, room: usize) -> Said<u8> {
     match said {
         Crate::NoText(place) => refuse(1, *place),
         Crate::Length => refuse(2, 0),
         Crate::Character => refuse(3, place),
-        Crate::Row(row) => match (row.len() - 24) / 11 {
-            n if n > LIMIT => refuse(4, n),
-            _ if room < row.len() => refuse(5, row.len()),
-            n => accept(n, row.clone()),
+        Crate::Row(row) => match ((row.len() - 24) / 11, retired(text)) {
+            (_, Some(first)) => refuse(19, first),
+            (n, None) if n > LIMIT => refuse(4, n),
+            (_, None) if room < row.len() => refuse(5, row.len()),
+            (n, None) => accept(n, row.clone()),
         },
     }
 }
@@ -348,7 +350,7 @@ impl<'a> Worker<'a> {
         room: usize,
         mark: u8,
     ) -> Outcome {
-        let said = encode_said(crates, place, room);
+        let said = encode_said(text, crates, place, room);
         let face = self.face;
         let answer = lend(&mut self.bytes, room, mark, |row| face.encode(text, row));
         if !agrees(&self.bytes, mark, answer, &said) {
@@ -370,12 +372,13 @@ impl<'a> Worker<'a> {
     }
 
     /// Compares `Code128`, the type with the crate's signatures, with a known answer of the crate.
-    /// More than 255 symbols must give `Error::Length`.
+    /// A ź must give `Error::Character`, and more than 255 symbols without one `Error::Length`.
     pub fn drop_in(&mut self, text: &[u32], crates: &Crate) -> Result<(), Box<Fault>> {
         let Ok(words) = ask::text_of(text) else {
             return Ok(());
         };
         let expected = match crates {
+            Crate::Row(_) if retired(text).is_some() => Err(Error::Character),
             Crate::Row(row) if row.len() <= cells(LIMIT) => Ok(row),
             Crate::Character => Err(Error::Character),
             _ => Err(Error::Length),

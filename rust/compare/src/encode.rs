@@ -1,8 +1,8 @@
 //! Compares encode with the crate.
 use crate::ask::{self, Crate, Tries};
 use crate::check::{broken, place_for, Subject, Tally, Worker};
-use crate::face::Answer;
-use crate::inputs::{self, SMALL, STYLES};
+use crate::inputs::{self, Style, SMALL, STYLES, WITH_FNC2};
+use crate::laws::given;
 use crate::model::{self, SWITCH};
 use crate::random::Random;
 use crate::run::{Result, Run};
@@ -62,7 +62,7 @@ fn walk(
 }
 
 /// Compares one text of the exhaustive run: with just enough room and, if it is accepted, also with
-/// one cell less.
+/// one cell less; if it has a ź, also with none and with more.
 fn visit(worker: &mut Worker, text: &[u32], said: &Crate, dead: Option<usize>) -> Result<()> {
     let mark = [0xA7, 0x5C, 0xFF][text.len() % 3];
     worker.count_text(text, said);
@@ -81,10 +81,15 @@ fn visit(worker: &mut Worker, text: &[u32], said: &Crate, dead: Option<usize>) -
         ));
     }
     worker.drop_in(text, said)?;
-    if worker.encode_known(text, said, dead.unwrap_or(text.len()), need, mark)? == 0 {
-        worker.encode_known(text, said, 0, need - 1, mark)?;
-    }
-    Ok(())
+    let answer = worker.encode_known(text, said, dead.unwrap_or(text.len()), need, mark)?;
+    let others: &[usize] = match answer {
+        0 => &[need - 1],
+        19 => &[0, need - 1, need + 64],
+        _ => &[],
+    };
+    others
+        .iter()
+        .try_for_each(|&room| worker.encode_known(text, said, 0, room, mark).map(drop))
 }
 
 /// Two digits, Ź and a switch, for longer texts in set C.
@@ -147,8 +152,11 @@ fn trees(alphabet: &[u32]) -> Vec<Tree<'_>> {
 
 /// The exhaustive run.
 pub fn all(run: &Run) -> Result<Tally> {
-    let alphabet = inputs::alphabet();
-    let trees = trees(&alphabet);
+    walk_all(run, &trees(&inputs::alphabet()))
+}
+
+/// Walks every tree, each as a block.
+fn walk_all(run: &Run, trees: &[Tree]) -> Result<Tally> {
     run.blocks(trees.len() as u64, |worker, block| {
         let tree = &trees[block as usize];
         let dead = ask::place_from_left(&tree.root, tries(&tree.root))
@@ -236,8 +244,8 @@ pub fn lengths(run: &Run) -> Result<Tally> {
     })
 }
 
-/// Texts of far more symbols than the limit: one that the crate accepts, and one that it refuses at
-/// some place.
+/// Texts of far more symbols than the limit, without ź and with it: one that the crate accepts, and
+/// one that it refuses at some place.
 pub fn far(run: &Run) -> Result<Tally> {
     let lengths = [
         6000,
@@ -251,24 +259,20 @@ pub fn far(run: &Run) -> Result<Tally> {
     run.blocks(lengths.len() as u64, |worker, block| {
         let mut random = Random::new(run.seed, "encode-far", block);
         let n = lengths[block as usize];
-        let mut text = inputs::label(&mut random, n, inputs::Style::Mixed);
-        with_room(
-            worker,
-            &text,
-            &ask::ask(&text),
-            inputs::room(&mut random, 2829),
-            random.mark(),
-        )?;
-        let place = random.below(n);
-        text.insert(place, 0x20AC);
-        with_room(
-            worker,
-            &text,
-            &ask::ask(&text),
-            inputs::room(&mut random, 2829),
-            random.mark(),
-        )
+        for style in [Style::Mixed, Style::Retired] {
+            let mut text = inputs::label(&mut random, n, style);
+            far_one(worker, &mut random, &text)?;
+            text.insert(random.below(n), 0x20AC);
+            far_one(worker, &mut random, &text)?;
+        }
+        Ok(())
     })
+}
+
+/// Compares one text of far more symbols than the limit.
+fn far_one(worker: &mut Worker, random: &mut Random, text: &[u32]) -> Result<()> {
+    let room = inputs::room(random, 2829);
+    with_room(worker, text, &ask::ask(text), room, random.mark())
 }
 
 /// Random texts, good and damaged.
@@ -280,6 +284,41 @@ pub fn random(run: &Run) -> Result<Tally> {
     })
 }
 
+/// All texts of a START and up to four of the small alphabet with ź, but for the START alone.
+pub fn retired(run: &Run) -> Result<Tally> {
+    let trees: Vec<Tree> = SWITCH
+        .iter()
+        .flat_map(|&start| {
+            WITH_FNC2.iter().map(move |&one| Tree {
+                root: vec![start, one],
+                depth: 3,
+                letters: &WITH_FNC2,
+                from: 2,
+            })
+        })
+        .collect();
+    walk_all(run, &trees)
+}
+
+/// Random texts with ź, good and damaged, each with several rooms.
+pub fn retired_random(run: &Run) -> Result<Tally> {
+    let alphabet = inputs::alphabet();
+    run.random_blocks("encode-retired", run.random / 40, |worker, random| {
+        let text = inputs::text_with_fnc2(random, &alphabet);
+        let said = ask::ask(&text);
+        let (place, need) = match &said {
+            Crate::Row(row) => (0, row.len()),
+            _ => (place_for(&text, &said), 35),
+        };
+        worker.count_text(&text, &said);
+        worker.drop_in(&text, &said)?;
+        for room in inputs::near(need) {
+            worker.encode_known(&text, &said, place, room, random.mark())?;
+        }
+        Ok(())
+    })
+}
+
 /// Random accepted texts, many with Ź inside pairs: the row is the same when Ź is moved ahead of
 /// its pair, and the other laws of texts hold.
 pub fn moved(run: &Run) -> Result<Tally> {
@@ -287,7 +326,7 @@ pub fn moved(run: &Run) -> Result<Tally> {
         let (n, style) = (
             inputs::symbols(random),
             if random.chance(70) {
-                inputs::Style::Held
+                Style::Held
             } else {
                 random.pick(&STYLES)
             },
@@ -305,19 +344,20 @@ struct Met {
     by_moved: HashMap<Vec<u32>, Vec<u8>>,
 }
 
-/// Compares one text that the crate accepts with those before it: its row is the crate's and begins
-/// with its START, and another text has the same row exactly if it has the same moved text. For a
-/// short text the law of texts is tested too.
+/// Compares one text that the crate accepts with those before it: our row is the crate's, or our
+/// answer is 19 at the first ź; the crate's row begins with the START of the text, and another text
+/// has the same row exactly if it has the same moved text. For a short text the law of texts is
+/// tested too.
 fn meet(worker: &mut Worker, met: &mut Met, text: &[u32]) -> Result<()> {
     let Some(row) = ask::row(text) else {
         return Ok(());
     };
-    let ours = worker.made_row(text);
-    if ours.as_ref() != Ok(&row) {
+    let (expected, ours) = (given(text, &row), worker.made_row(text));
+    if ours != expected {
         return Err(broken(
             Subject::TextLaw,
             text.to_vec(),
-            format!("the row: {:?}", Ok::<_, Answer>(&row)),
+            format!("encode: {expected:?}"),
             format!("{ours:?}"),
         ));
     }
@@ -360,30 +400,35 @@ fn meet(worker: &mut Worker, met: &mut Met, text: &[u32]) -> Result<()> {
     worker.text_law(text)
 }
 
-/// Does the same for this text and for those that continue it, as long as they can be continued.
-fn meet_below(worker: &mut Worker, met: &mut Met, text: &mut Vec<u32>, depth: usize) -> Result<()> {
+/// Does the same for this text and for those that continue it with up to `depth` of `letters`, as
+/// long as they can be continued.
+fn meet_below(
+    worker: &mut Worker,
+    met: &mut Met,
+    text: &mut Vec<u32>,
+    letters: &[u32],
+    depth: usize,
+) -> Result<()> {
     if !ask::continues(text, Tries::Digit) {
         return Ok(());
     }
     meet(worker, met, text)?;
-    for &letter in SMALL.iter().filter(|_| depth > 0) {
+    for &letter in letters.iter().filter(|_| depth > 0) {
         text.push(letter);
-        meet_below(worker, met, text, depth - 1)?;
+        meet_below(worker, met, text, letters, depth - 1)?;
         text.pop();
     }
     Ok(())
 }
 
-/// Two accepted texts of a START and up to 5 of the small alphabet have the same row in the crate
-/// exactly if they have the same moved text. Each START is a block of its own, since a row begins
-/// with its START.
+/// Two texts that the crate accepts, of a START and up to 5 of the small alphabet, have the same
+/// row in the crate exactly if they have the same moved text; and so have those of the small
+/// alphabet with ź. Each START is a block of its own, since a row begins with its START.
 pub fn shared(run: &Run) -> Result<Tally> {
-    run.blocks(3, |worker, block| {
-        meet_below(
-            worker,
-            &mut Met::default(),
-            &mut vec![SWITCH[block as usize]],
-            5,
-        )
+    let alphabets: [&[u32]; 2] = [&SMALL, &WITH_FNC2];
+    run.blocks(2 * 3, |worker, block| {
+        let (alphabet, start) = (block as usize / 3, block as usize % 3);
+        let (met, text) = (&mut Met::default(), &mut vec![SWITCH[start]]);
+        meet_below(worker, met, text, alphabets[alphabet], 5)
     })
 }

@@ -1,7 +1,7 @@
 //! The seven jobs as the comparison calls them: the true ones, and wrong ones that show that a run
 //! finds a wrong answer.
 use crate::ask;
-use crate::model::{self, Model, STOP};
+use crate::model::{self, Model, FNC2, LIMIT, NUMBER_OF_FNC2, STOP, SWITCH};
 use slatmonief::error::Error;
 use slatmonief::sym::code128::Code128;
 
@@ -125,10 +125,44 @@ pub enum Plant {
     Packed,
     /// The type with the crate's signatures gives `Length` for `Character`.
     DropIn,
+    /// Encode answers a ź before a later place where parsing stops.
+    RetiredFirst,
+    /// Refusal 19 for a ź in set C.
+    RetiredInC,
+    /// Refusal 19 with the place of the last ź.
+    RetiredLast,
+    /// Refusal 19 with the place counted in symbols.
+    RetiredSymbol,
+    /// Encode answers too many symbols before a ź.
+    TooManyFirst,
+    /// Encode answers a short buffer before a ź.
+    TooShortFirst,
+    /// Encode accepts ź in set A.
+    KeptInA,
+    /// Encode accepts ź in set B.
+    KeptInB,
+    /// Refusal 19 for the pair 97 after Ć.
+    Pair97,
+    /// Refusal 19 for a check of 97.
+    Check97,
+    /// Refusal 19 writes the first cell.
+    RetiredTouched,
+    /// The type with the crate's signatures gives `Length` for a ź.
+    RetiredDropIn,
+    /// Draw refuses 97 in set A or B.
+    Draw97,
+    /// Read refuses 97 in set B.
+    Read97,
+    /// Spell refuses 97 in set A or B.
+    Spell97,
+    /// Spell leaves out 97 in set A or B.
+    Without97,
+    /// Scan refuses 97 in set A or B.
+    Scan97,
 }
 
 /// Every plant and its name on the command line.
-pub const PLANTS: [(&str, Plant); 28] = [
+pub const PLANTS: [(&str, Plant); 45] = [
     ("place", Plant::Place),
     ("weight", Plant::Weight),
     ("touched", Plant::Touched),
@@ -157,6 +191,31 @@ pub const PLANTS: [(&str, Plant); 28] = [
     ("needed", Plant::Needed),
     ("packed", Plant::Packed),
     ("drop-in", Plant::DropIn),
+    ("retired-first", Plant::RetiredFirst),
+    ("retired-in-c", Plant::RetiredInC),
+    ("retired-last", Plant::RetiredLast),
+    ("retired-symbol", Plant::RetiredSymbol),
+    ("too-many-first", Plant::TooManyFirst),
+    ("too-short-first", Plant::TooShortFirst),
+    ("kept-in-a", Plant::KeptInA),
+    ("kept-in-b", Plant::KeptInB),
+    ("pair97", Plant::Pair97),
+    ("check97", Plant::Check97),
+    ("retired-touched", Plant::RetiredTouched),
+    ("retired-drop-in", Plant::RetiredDropIn),
+    ("draw97", Plant::Draw97),
+    ("read97", Plant::Read97),
+    ("spell97", Plant::Spell97),
+    ("without97", Plant::Without97),
+    ("scan97", Plant::Scan97),
+];
+
+/// The plants that give refusal 19 where another answer is right.
+const NEEDLESS_19: [Plant; 4] = [
+    Plant::RetiredFirst,
+    Plant::RetiredInC,
+    Plant::Pair97,
+    Plant::Check97,
 ];
 
 /// The library with one wrong answer planted in it.
@@ -199,6 +258,70 @@ impl Wrong {
         }
     }
 
+    /// A wrong answer about ź, if encode refuses the text by 19 and this plant is wrong here.
+    fn instead_of_19(&self, text: &[u32], row: &mut [u8], first: usize) -> Option<Answer> {
+        let in_set = |set: usize| fnc2s_stand_in(text, SWITCH[set]);
+        match self.plant {
+            Plant::RetiredLast => Some((19, text.iter().rposition(|&point| point == FNC2)?)),
+            Plant::RetiredSymbol => Some((19, symbols_of(&text[..first]))),
+            Plant::TooManyFirst => Some(symbols_of(text))
+                .filter(|&n| n > LIMIT)
+                .map(|n| (4, n)),
+            Plant::TooShortFirst => Some(model::cells(symbols_of(text)))
+                .filter(|&need| need > row.len())
+                .map(|need| (5, need)),
+            Plant::KeptInA if in_set(0) => written(text, row),
+            Plant::KeptInB if in_set(1) => written(text, row),
+            Plant::RetiredTouched => row.first_mut().map(|cell| {
+                *cell ^= 1;
+                (19, first)
+            }),
+            _ => None,
+        }
+    }
+
+    /// Refusal 19 where it is wrong, if encode refuses the text by 3 or accepts it, and this plant
+    /// is wrong here. With no room an accepted text is refused by 4 or 5.
+    fn needless_19(&self, text: &[u32]) -> Option<Answer> {
+        if !NEEDLESS_19.contains(&self.plant) {
+            return None;
+        }
+        let first = model::retired(text);
+        let place = match (self.plant, True.encode(text, &mut [])) {
+            (Plant::RetiredFirst, (3, stop)) => first.filter(|&first| first < stop),
+            (Plant::RetiredInC, (3, stop)) => first.filter(|&first| first == stop && stop > 0),
+            (Plant::Pair97, (4 | 5, _)) => text
+                .windows(3)
+                .position(|three| *three == [SWITCH[2], 0x39, 0x37])
+                .map(|place| place + 1),
+            (Plant::Check97, (5, cells)) => {
+                let check = ask::row(text)?[cells - 24..cells - 13].to_vec();
+                (self.model.number(&check) == Some(NUMBER_OF_FNC2)).then_some(text.len())
+            }
+            _ => None,
+        };
+        place.map(|place| (19, place))
+    }
+
+    /// Refusal 13 at the first 97 in set A or B of a good list, if this is the plant.
+    fn refused_97(&self, plant: Plant, list: &[u8]) -> Option<Answer> {
+        if self.plant != plant || !matches!(True.draw(list, &mut []).0, 0 | 5) {
+            return None;
+        }
+        fnc2s(list).first().map(|&(place, _)| (13, place))
+    }
+
+    /// The block of the first 97 in set B of a row that is read, if the plant is `Read97`.
+    fn fnc2_in_b(&self, row: &[u8]) -> Option<usize> {
+        let mut list = [0; LIMIT];
+        let read = self.plant == Plant::Read97 && True.read(row, &mut list).0 == 0;
+        let places = if read { fnc2s(&list) } else { Vec::new() };
+        places
+            .iter()
+            .find(|&&(_, set)| set == 1)
+            .map(|&(place, _)| place)
+    }
+
     /// The row with the right check.
     fn with_check(&self, row: &[u8], right: usize) -> Vec<u8> {
         let mut row = row.to_vec();
@@ -228,6 +351,66 @@ fn held_at(text: &[u32]) -> Option<usize> {
         .then_some(2)
 }
 
+/// The number of symbols of a text that the crate accepts: with Ż (FNC3) for ź it has as many.
+fn symbols_of(text: &[u32]) -> usize {
+    let renamed = text.iter().map(|&point| match point {
+        FNC2 => 0x17B,
+        point => point,
+    });
+    match True.encode(&renamed.collect::<Vec<u32>>(), &mut []) {
+        (5, cells) => (cells - 24) / 11,
+        (_, n) => n,
+    }
+}
+
+/// Whether every ź of a text that the crate accepts stands after this switch and no later one.
+fn fnc2s_stand_in(text: &[u32], switch: u32) -> bool {
+    let mut current = 0;
+    text.iter().all(|&point| {
+        if SWITCH.contains(&point) {
+            current = point;
+        }
+        point != FNC2 || current == switch
+    })
+}
+
+/// Writes the crate's row of a text, if it has at most 255 symbols and there is room.
+fn written(text: &[u32], row: &mut [u8]) -> Option<Answer> {
+    let cells = ask::row(text).filter(|cells| cells.len() <= model::cells(LIMIT))?;
+    row.get_mut(..cells.len())?.copy_from_slice(&cells);
+    Some((0, (cells.len() - 24) / 11))
+}
+
+/// The places of 97 in set A or B of a list, each with its set (0 is A, 1 is B).
+fn fnc2s(list: &[u8]) -> Vec<(usize, usize)> {
+    let (mut set, mut places) = (2, Vec::new());
+    for (place, &number) in list.iter().enumerate() {
+        if number == NUMBER_OF_FNC2 && set < 2 {
+            places.push((place, set));
+        }
+        set = match number {
+            103..=105 => model::set_of(number),
+            _ => model::set_after(set, number),
+        };
+    }
+    places
+}
+
+/// The list without its 97 in set A or B.
+fn without_fnc2(list: &[u8]) -> Vec<u8> {
+    let mut list = list.to_vec();
+    for (place, _) in fnc2s(&list).into_iter().rev() {
+        list.remove(place);
+    }
+    list
+}
+
+/// Whether the crate accepts this text.
+fn barcoders_takes(text: &str) -> bool {
+    let points: Vec<u32> = text.chars().map(u32::from).collect();
+    ask::row(&points).is_some()
+}
+
 /// A list whose right bytes are those of a wrong scan for this list, if the plant is wrong at the
 /// front of it. 96 sends nothing in set A or B.
 fn misread(plant: Plant, list: &[u8]) -> Option<Vec<u8>> {
@@ -250,6 +433,9 @@ fn misread(plant: Plant, list: &[u8]) -> Option<Vec<u8>> {
 
 impl Face for Wrong {
     fn encode(&self, text: &[u32], row: &mut [u8]) -> Answer {
+        if let Some(answer) = self.needless_19(text) {
+            return answer;
+        }
         let before = row.first().copied();
         let kept = if self.plant == Plant::Held {
             row.to_vec()
@@ -279,11 +465,15 @@ impl Face for Wrong {
                 row.copy_from_slice(&kept);
                 (3, 2)
             }
+            (_, (19, first)) => self.instead_of_19(text, row, first).unwrap_or(answer),
             _ => answer,
         }
     }
 
     fn draw(&self, list: &[u8], row: &mut [u8]) -> Answer {
+        if let Some(answer) = self.refused_97(Plant::Draw97, list) {
+            return answer;
+        }
         let answer = True.draw(list, row);
         if self.plant == Plant::RoomFirst && answer.0 == 13 && row.len() < model::cells(list.len())
         {
@@ -298,6 +488,9 @@ impl Face for Wrong {
     }
 
     fn read(&self, row: &[u8], list: &mut [u8]) -> Answer {
+        if let Some(block) = self.fnc2_in_b(row) {
+            return (13, block);
+        }
         match (self.plant, True.read(row, list)) {
             (Plant::Replaced, (14, right)) => True.read(&self.with_check(row, right), list),
             (Plant::CheckFirst, (15, place)) => match True.read(&with_stop(row), &mut []) {
@@ -316,13 +509,20 @@ impl Face for Wrong {
     }
 
     fn spell(&self, list: &[u8], text: &mut [u32]) -> Answer {
+        if let Some(answer) = self.refused_97(Plant::Spell97, list) {
+            return answer;
+        }
         match (self.plant, True.spell(list, &mut text.to_vec())) {
             (Plant::Room, (0, need)) if need == text.len() => (5, need + 1),
+            (Plant::Without97, (0 | 5, _)) => True.spell(&without_fnc2(list), text),
             _ => True.spell(list, text),
         }
     }
 
     fn scan(&self, list: &[u8], bytes: &mut [u8]) -> Answer {
+        if let Some(answer) = self.refused_97(Plant::Scan97, list) {
+            return answer;
+        }
         let good = |list: &[u8]| matches!(True.scan(list, &mut []).0, 0 | 5);
         match misread(self.plant, list) {
             Some(other) if good(list) && good(&other) => True.scan(&other, bytes),
@@ -357,6 +557,7 @@ impl Face for Wrong {
     fn code128(&self, text: &str) -> Result<Vec<u8>, Error> {
         match (self.plant, True.code128(text)) {
             (Plant::DropIn, Err(Error::Character)) => Err(Error::Length),
+            (Plant::RetiredDropIn, Err(_)) if barcoders_takes(text) => Err(Error::Length),
             (_, answer) => answer,
         }
     }

@@ -1,5 +1,5 @@
 //! The inputs: alphabets, labels, symbol lists, rows, and damaged copies of them.
-use crate::model::{self, Model, FNC1, LIMIT, SHIFT, SWITCH};
+use crate::model::{self, Model, FNC1, FNC2, LIMIT, NUMBER_OF_FNC2, SHIFT, SWITCH};
 use crate::random::Random;
 
 /// Digits that are not ASCII.
@@ -12,10 +12,17 @@ const EDGES: [u32; 9] = [
     0x7F, 0x80, 0x7FF, 0x800, 0xD7FF, 0xE000, 0xFFFF, 0x1_0000, 0x10_FFFF,
 ];
 /// The letters of the switches, of Shift and of the function symbols.
-const NAMED: [u32; 8] = [0xC0, 0x181, 0x106, 0x179, 0x17A, 0x17B, 0x17C, 0x17D];
+const NAMED: [u32; 8] = [0xC0, 0x181, 0x106, FNC1, FNC2, 0x17B, 0x17C, 0x17D];
+/// Those of them that have a number in sets A and B and change no set, without ź.
+const ORDINARY: [u32; 4] = [FNC1, 0x17B, 0x17C, 0x17D];
 /// A small alphabet for longer exhaustive runs.
 pub const SMALL: [u32; 14] = [
     0x30, 0x31, 0x39, 0x41, 0x61, 0x1F, 0x20, 0x5F, 0xC0, 0x181, 0x106, 0x179, 0x17D, 0x17C,
+];
+/// A small alphabet with ź: the digits of the pair 97, `a`, which set A lacks, the switches, Ź, ź,
+/// a code point that has no number, and a value that is not a scalar value.
+pub const WITH_FNC2: [u32; 10] = [
+    0x37, 0x39, 0x61, 0xC0, 0x181, 0x106, FNC1, FNC2, 0x20AC, 0xD800,
 ];
 
 /// Every code point that has a number in some set, its neighbours, and other values that are worth
@@ -42,10 +49,19 @@ pub enum Style {
     Mixed,
     /// Set C only, with Ź inside many pairs.
     Held,
+    /// All three sets, with switches, and with few or many ź. The other styles have no ź.
+    Retired,
 }
 
 /// Every style.
-pub const STYLES: [Style; 5] = [Style::A, Style::B, Style::C, Style::Mixed, Style::Held];
+pub const STYLES: [Style; 6] = [
+    Style::A,
+    Style::B,
+    Style::C,
+    Style::Mixed,
+    Style::Held,
+    Style::Retired,
+];
 
 /// A label of exactly n symbols, n at least 1.
 pub fn label(random: &mut Random, n: usize, style: Style) -> Vec<u32> {
@@ -53,18 +69,24 @@ pub fn label(random: &mut Random, n: usize, style: Style) -> Vec<u32> {
         Style::A => 0,
         Style::B => 1,
         Style::C | Style::Held => 2,
-        Style::Mixed => random.below(3),
+        Style::Mixed | Style::Retired => random.below(3),
     };
+    let retired = match style {
+        Style::Retired => random.pick(&[1, 10, 40]),
+        _ => 0,
+    };
+    let switches = matches!(style, Style::Mixed | Style::Retired);
     let (mut text, mut left) = (vec![SWITCH[set]], n - 1);
     while left > 0 {
-        if style == Style::Mixed && random.chance(15) {
+        if switches && random.chance(15) {
             set = (set + 1 + random.below(2)) % 3;
             text.push(SWITCH[set]);
             left -= 1;
         } else if set == 2 {
             left -= in_c(random, &mut text, left, style);
         } else {
-            text.push(ordinary(random, set));
+            let fnc2 = random.chance(retired);
+            text.push(if fnc2 { FNC2 } else { ordinary(random, set) });
             left -= 1;
         }
     }
@@ -80,7 +102,7 @@ fn in_c(random: &mut Random, text: &mut Vec<u32>, left: usize, style: Style) -> 
     }
     let often = match style {
         Style::Held => 40,
-        Style::Mixed => 10,
+        Style::Mixed | Style::Retired => 10,
         _ => 0,
     };
     let between = if random.chance(often) {
@@ -94,10 +116,10 @@ fn in_c(random: &mut Random, text: &mut Vec<u32>, left: usize, style: Style) -> 
     1 + between
 }
 
-/// A code point that has a number in set A or B and is not a switch.
+/// A code point that has a number in set A or B and is neither a switch nor ź.
 fn ordinary(random: &mut Random, set: usize) -> u32 {
     if random.chance(10) {
-        return random.pick(&NAMED[3..]);
+        return random.pick(&ORDINARY);
     }
     match (set, random.below(96) as u32) {
         (0, value) => value,
@@ -135,9 +157,31 @@ pub fn text(random: &mut Random, alphabet: &[u32]) -> Vec<u32> {
     text
 }
 
-/// Any code points of the alphabet or of the small alphabet, mostly after a START.
+/// A random text with ź: a good label, or one in which a ź or a code point without a number is put
+/// in, that ends with a digit left over, or that is damaged. One in eight is close to the limit.
+pub fn text_with_fnc2(random: &mut Random, alphabet: &[u32]) -> Vec<u32> {
+    let n = match random.below(8) {
+        0 => 250 + random.below(12),
+        _ => symbols(random),
+    };
+    let mut text = label(random, n, Style::Retired);
+    if !text.contains(&FNC2) {
+        text.push(FNC2);
+    }
+    let place = random.below(text.len() + 1);
+    match random.below(10) {
+        0 | 1 => text.insert(place, FNC2),
+        2 | 3 => text.insert(place, random.pick(&[0x20AC, 0x7F, 0x17E])),
+        4 => text.extend([SWITCH[2], 0x39]),
+        5 => damage(random, &mut text, alphabet),
+        _ => {}
+    }
+    text
+}
+
+/// Any code points of the alphabet or of a small alphabet, mostly after a START.
 fn letters(random: &mut Random, alphabet: &[u32]) -> Vec<u32> {
-    let from = if random.chance(50) { alphabet } else { &SMALL };
+    let from = random.pick(&[alphabet, alphabet, &SMALL, &WITH_FNC2]);
     let mut text: Vec<u32> = (0..random.below(9)).map(|_| random.pick(from)).collect();
     if random.chance(80) {
         text.insert(0, random.pick(&SWITCH));
@@ -163,7 +207,10 @@ pub fn damage(random: &mut Random, text: &mut Vec<u32>, alphabet: &[u32]) {
         7 => text.insert(place, random.pick(&SWITCH)),
         8 => text.insert(place, 0x30 + random.below(10) as u32),
         _ if random.chance(30) => text.insert(place, random.pick(&NO_SCALARS)),
-        _ => text.insert(place, random.pick(&[FNC1, 0x17D, 0xF7, 0x7F, 0x61, 0x1F])),
+        _ => text.insert(
+            place,
+            random.pick(&[FNC1, FNC2, 0x17D, 0xF7, 0x7F, 0x61, 0x1F]),
+        ),
     }
 }
 
@@ -197,6 +244,16 @@ pub fn list_of_shifts(random: &mut Random, n: usize) -> Vec<u8> {
         8..=16 => random.below(96),
         17 => 94 + random.below(9),
         _ => 100 + random.below(2),
+    })
+}
+
+/// A symbol list of length n that draw accepts, in all three sets: three numbers in ten are 97.
+pub fn list_of_97(random: &mut Random, n: usize) -> Vec<u8> {
+    list_of(random, n, |random| match random.below(20) {
+        0..=5 => usize::from(NUMBER_OF_FNC2),
+        6..=14 => random.below(96),
+        15 => 94 + random.below(9),
+        _ => 99 + random.below(3),
     })
 }
 

@@ -19,6 +19,15 @@ fn made<T: Element>(
     }
 }
 
+/// What encode must give for a text that the crate accepts with this row: the row, or refusal 19 at
+/// the first ź.
+pub fn given(text: &[u32], row: &[u8]) -> Result<Vec<u8>, Answer> {
+    match model::retired(text) {
+        Some(place) => Err((19, place)),
+        None => Ok(row.to_vec()),
+    }
+}
+
 /// The length of the front, for a job that answers the number of its elements.
 fn itself(n: usize) -> usize {
     n
@@ -65,8 +74,8 @@ impl Worker<'_> {
         ))
     }
 
-    /// An accepted text: the symbols of its row are read, drawn and spelled, and the text with Ź
-    /// moved has the same row, in the library and in the crate.
+    /// A text that the crate accepts: the symbols of its row are read, drawn and spelled, and the
+    /// text with Ź moved has the same row, in the crate and, if there is no ź, in the library.
     pub fn text_law(&mut self, text: &[u32]) -> Result<(), Box<Fault>> {
         let law = Subject::TextLaw;
         let Some(row) = ask::row(text).filter(|row| row.len() <= model::cells(LIMIT)) else {
@@ -83,11 +92,11 @@ impl Worker<'_> {
         self.same(
             law,
             text,
-            "the row of the moved text",
-            Ok(&row),
-            self.made_row(&moved).as_ref(),
+            "encode of the moved text",
+            given(&moved, &row),
+            self.made_row(&moved),
         )?;
-        self.same(law, text, "the row", Ok(&row), self.made_row(text).as_ref())?;
+        self.same(law, text, "encode", given(text, &row), self.made_row(text))?;
         let list = self.model.read(&row, LIMIT).front;
         self.same(
             law,
@@ -114,8 +123,8 @@ impl Worker<'_> {
         Ok(())
     }
 
-    /// A list that is drawn: its row is read back, and its spelling has the same row, in the
-    /// library and in the crate.
+    /// A list that is drawn: its row is read back, and its spelling has the same row, in the crate
+    /// and, if there is no ź, in the library. If there is, the list is tried with 96 for 97 too.
     pub fn list_law(&mut self, list: &[u8]) -> Result<(), Box<Fault>> {
         let law = Subject::ListLaw;
         let Ok(row) = self.drawn(list) else {
@@ -133,29 +142,39 @@ impl Worker<'_> {
         let Ok(text) = text else {
             return self.same(law, &shown, "the list is spelled", Ok(Vec::new()), text);
         };
-        self.same(
-            law,
-            &shown,
-            "the row of the spelling",
-            Ok(&row),
-            self.made_row(&text).as_ref(),
-        )?;
-        self.same(
-            law,
-            &shown,
-            "the crate's row of the spelling",
-            Some(&row),
-            ask::row(&text).as_ref(),
-        )?;
-        self.same(
-            law,
-            &shown,
-            "the spelling has no Ź inside a pair",
-            &text,
-            &model::moved(&text),
-        )?;
+        self.spelling(&shown, &text, &row)?;
+        if model::retired(&text).is_some() {
+            return self.list_law(&model::without_97(list));
+        }
         self.tally.laws += 1;
         Ok(())
+    }
+
+    /// What the law of lists says of the spelling: the crate's row of it, what encode gives for it,
+    /// and no Ź inside a pair.
+    fn spelling(&self, shown: &[u32], text: &[u32], row: &Vec<u8>) -> Result<(), Box<Fault>> {
+        let law = Subject::ListLaw;
+        self.same(
+            law,
+            shown,
+            "encode of the spelling",
+            given(text, row),
+            self.made_row(text),
+        )?;
+        self.same(
+            law,
+            shown,
+            "the crate's row of the spelling",
+            Some(row),
+            ask::row(text).as_ref(),
+        )?;
+        self.same(
+            law,
+            shown,
+            "the spelling has no Ź inside a pair",
+            text,
+            &model::moved(text),
+        )
     }
 
     /// A list that is scanned: Shift changes neither the number of bytes nor refusal 5, and without

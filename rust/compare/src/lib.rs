@@ -47,7 +47,7 @@ const fn part(name: &'static str, encode: bool, work: fn(&Run) -> run::Result<Ta
 }
 
 /// Every part, in the order of a run.
-pub const PARTS: [Part; 20] = [
+pub const PARTS: [Part; 22] = [
     part("encode-all", true, encode::all),
     part("encode-points", true, encode::points),
     part("encode-lengths", true, |run| {
@@ -56,6 +56,11 @@ pub const PARTS: [Part; 20] = [
         Ok(tally)
     }),
     part("encode-random", true, encode::random),
+    part("encode-retired", true, |run| {
+        let mut tally = encode::retired(run)?;
+        tally.add(&encode::retired_random(run)?);
+        Ok(tally)
+    }),
     part("encode-shared", true, encode::shared),
     part("encode-moved", true, encode::moved),
     part("read-all", false, read::all),
@@ -74,6 +79,11 @@ pub const PARTS: [Part; 20] = [
     part("lists-random", false, lists::random),
     part("lists-shift", false, lists::shift),
     part("lists-shift-random", false, lists::shift_random),
+    part("lists-retired", false, |run| {
+        let mut tally = lists::retired(run)?;
+        tally.add(&lists::retired_random(run)?);
+        Ok(tally)
+    }),
     part("records-all", false, |run| {
         let mut tally = records::all(run)?;
         tally.add(&records::heads(run)?);
@@ -84,7 +94,9 @@ pub const PARTS: [Part; 20] = [
 ];
 
 /// The numbers of the refusals in documents 01 and 02.
-const REFUSALS: [usize; 16] = [1, 2, 3, 4, 5, 10, 11, 12, 13, 14, 15, 16, 20, 21, 22, 23];
+const REFUSALS: [usize; 17] = [
+    1, 2, 3, 4, 5, 10, 11, 12, 13, 14, 15, 16, 19, 20, 21, 22, 23,
+];
 
 /// What a whole run must come across and this tally has not: an accepted call, each refusal, each
 /// row of the list, the type with the crate's signatures.

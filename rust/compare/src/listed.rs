@@ -3,13 +3,14 @@
 use crate::ask::Crate;
 use crate::model::{self, FNC1};
 
-/// A row of docs/DIFFERENCES.md. In the first three, encode differs from the crate. In the last
-/// four the crate differs from the standard; there encode follows the crate and must answer as it
-/// does.
+/// A row of docs/DIFFERENCES.md. In the first four, encode differs from the crate. In the last four
+/// the crate differs from the standard; there encode follows the crate and must answer as it does.
 #[derive(Clone, Copy, Debug, PartialEq, Eq)]
 pub enum Listed {
     /// A value is not a scalar value: the crate cannot be asked.
     NoScalar,
+    /// The text has a ź: the crate writes its row.
+    Retired,
     /// More than 255 symbols: the crate has no limit.
     TooMany,
     /// The buffer is too short: the crate makes a vector of its own.
@@ -25,8 +26,9 @@ pub enum Listed {
 }
 
 /// Every row of the list, with its name in docs/DIFFERENCES.md.
-pub const LIST: [(Listed, &str); 7] = [
+pub const LIST: [(Listed, &str); 8] = [
     (Listed::NoScalar, "Refusal 1, no scalar value"),
+    (Listed::Retired, "Refusal 19, ź (FNC2, 97) is retired"),
     (Listed::TooMany, "Refusal 4, more than 255 symbols"),
     (Listed::TooShort, "Refusal 5, output too short"),
     (Listed::Divide, "÷ for DEL: number 95 in set B"),
@@ -39,6 +41,7 @@ pub const LIST: [(Listed, &str); 7] = [
 fn differs_from_crate(number: u32) -> Option<Listed> {
     match number {
         1 => Some(Listed::NoScalar),
+        19 => Some(Listed::Retired),
         4 => Some(Listed::TooMany),
         5 => Some(Listed::TooShort),
         _ => None,
@@ -46,7 +49,8 @@ fn differs_from_crate(number: u32) -> Option<Listed> {
 }
 
 /// The rows that an input of encode belongs to, from the crate's answer, the place of refusal 3 and
-/// our answer number.
+/// our answer number. After 19 encode does not follow the crate, so it is counted in its own row
+/// alone.
 pub fn rows_of(
     text: &[u32],
     said: &Crate,
@@ -54,7 +58,7 @@ pub fn rows_of(
     number: u32,
 ) -> impl Iterator<Item = Listed> {
     let row = match said {
-        Crate::Row(row) => Some(row),
+        Crate::Row(row) if number != 19 => Some(row),
         _ => None,
     };
     let stops_at = |what: u32| *said == Crate::Character && text.get(place) == Some(&what);

@@ -1,7 +1,8 @@
 //! Compares draw, spell and scan on symbol lists, good and damaged.
-use crate::check::{Tally, Worker};
+use crate::ask;
+use crate::check::{place_for, Tally, Worker};
 use crate::inputs;
-use crate::model::{accept, cells, refuse, LIMIT};
+use crate::model::{accept, cells, refuse, Said, LIMIT};
 use crate::random::Random;
 use crate::run::{Result, Run};
 
@@ -180,16 +181,20 @@ pub fn shift(run: &Run) -> Result<Tally> {
     })
 }
 
+/// What a job must answer in this room, if it writes these elements in enough room.
+fn known<T: Clone>(front: &[T], room: usize) -> Said<T> {
+    match room < front.len() {
+        true => refuse(5, front.len()),
+        false => accept(front.len(), front.to_vec()),
+    }
+}
+
 /// Compares scan on one list with these bytes, whatever the model says, in too little room, in
 /// enough and in more.
 fn shift_known(worker: &mut Worker, list: &[u8], bytes: &[u8]) -> Result<()> {
     worker.tally.inputs += 1;
     for room in inputs::near(bytes.len()) {
-        let said = match room < bytes.len() {
-            true => refuse(5, bytes.len()),
-            false => accept(bytes.len(), bytes.to_vec()),
-        };
-        worker.scan_known(list, &said, room, 0xA7)?;
+        worker.scan_known(list, &known(bytes, room), room, 0xA7)?;
     }
     worker.shift_law(list)
 }
@@ -204,5 +209,83 @@ pub fn shift_random(run: &Run) -> Result<Tally> {
         let list = inputs::list_of_shifts(random, n);
         with_any_room(worker, random, &list)?;
         worker.shift_law(&list)
+    })
+}
+
+/// Lists with 97, and the text and the bytes that documents 01 and 02 give them.
+pub const WITH_97: [(&[u8], &str, &[u8]); 8] = [
+    (&[103, 97], "Àź", &[]),
+    (&[104, 97], "Ɓź", &[]),
+    (&[105, 97], "Ć97", &[0x39, 0x37]),
+    (&[104, 33, 97, 34, 97], "ƁAźBź", &[0x41, 0x42]),
+    (&[105, 97, 101, 97, 65], "Ć97Àź\u{1}", &[0x39, 0x37, 0x01]),
+    (&[103, 97, 99, 97], "ÀźĆ97", &[0x39, 0x37]),
+    (&[103, 98, 97, 65], "ÀŽź\u{1}", &[0x01]),
+    (&[104, 100, 97, 101, 97], "ƁżźÀź", &[]),
+];
+
+/// Numbers that may stand beside 97: some at the ends of a range, Shift, the switches and FNC1.
+const BESIDE_97: [u8; 9] = [0, 65, 95, 97, 98, 99, 100, 101, 102];
+
+/// The lists of `WITH_97`, spelled and scanned to exactly what stands there; and each START with up
+/// to three of the numbers beside 97.
+pub fn retired(run: &Run) -> Result<Tally> {
+    run.blocks(1 + 3, |worker, block| match block {
+        0 => WITH_97
+            .iter()
+            .try_for_each(|(list, text, bytes)| retired_known(worker, list, text, bytes)),
+        _ => walk(
+            worker,
+            &mut vec![102 + block as u8],
+            &BESIDE_97,
+            3,
+            &|worker, list| {
+                close(worker, list)?;
+                read_and_encoded(worker, list)
+            },
+        ),
+    })
+}
+
+/// Compares spell and scan on one list with this text and these bytes, whatever the model says, and
+/// draw, read and encode as for every list.
+fn retired_known(worker: &mut Worker, list: &[u8], text: &str, bytes: &[u8]) -> Result<()> {
+    let points: Vec<u32> = text.chars().map(u32::from).collect();
+    for room in inputs::near(points.len()) {
+        worker.spell_known(list, &known(&points, room), room, 0x5C)?;
+    }
+    for room in inputs::near(bytes.len()) {
+        worker.scan_known(list, &known(bytes, room), room, 0xA7)?;
+    }
+    close(worker, list)?;
+    read_and_encoded(worker, list)
+}
+
+/// Compares read on the row of a good list, and encode on its spelling; the crate decides what
+/// encode must answer.
+fn read_and_encoded(worker: &mut Worker, list: &[u8]) -> Result<()> {
+    let (row, n) = (worker.model.row_of_list(list), list.len());
+    for room in [n - 1, n, n + 1] {
+        worker.read(&row, room, 0x5C)?;
+    }
+    let text = worker.model.spell(list, usize::MAX).front;
+    let said = ask::ask(&text);
+    for room in [0, row.len() - 1, row.len()] {
+        worker.encode_known(&text, &said, place_for(&text, &said), room, 0xA7)?;
+    }
+    Ok(())
+}
+
+/// Random lists with many 97 and random room; one in eight of any length up to the limit.
+pub fn retired_random(run: &Run) -> Result<Tally> {
+    run.random_blocks("lists-retired", run.random / 80, |worker, random| {
+        let n = match random.below(8) {
+            0 => 1 + random.below(LIMIT),
+            _ => inputs::length(random),
+        };
+        let list = inputs::list_of_97(random, n);
+        with_any_room(worker, random, &list)?;
+        worker.list_law(&list)?;
+        read_and_encoded(worker, &list)
     })
 }

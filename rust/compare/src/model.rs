@@ -1,5 +1,6 @@
-//! A plain model of six jobs, written from document 01 and requests 1 and 3 of document 02. It is
-//! given the bar patterns and uses nothing else.
+//! A plain model of six jobs, and of the one rule of encode that the crate lacks, written from
+//! document 01 and requests 1, 3 and 12 of document 02. It is given the bar patterns and uses
+//! nothing else.
 
 /// What a job must answer: the answer number, the second number, and the elements at the front of
 /// the buffer (none for a refusal).
@@ -47,6 +48,10 @@ pub const STOP: [u8; 13] = [1, 1, 0, 0, 0, 1, 1, 1, 0, 1, 0, 1, 1];
 pub const SWITCH: [u32; 3] = [0xC0, 0x181, 0x106];
 /// Ź, which is FNC1.
 pub const FNC1: u32 = 0x179;
+/// ź, which is FNC2.
+pub const FNC2: u32 = 0x17A;
+/// The number of FNC2 in the sets A and B.
+pub const NUMBER_OF_FNC2: u8 = 97;
 
 /// The number of cells in a row of n symbols.
 pub fn cells(n: usize) -> usize {
@@ -97,13 +102,27 @@ fn allowed_at(number: u8, place: usize) -> bool {
     }
 }
 
+/// The place of refusal 19 in a text that document 01's encoder accepts: that of the first ź.
+pub fn retired(text: &[u32]) -> Option<usize> {
+    text.iter().position(|&point| point == FNC2)
+}
+
+/// The list with 96 for every 97: in sets A and B FNC3 for FNC2, so that the spelling has no ź.
+pub fn without_97(list: &[u8]) -> Vec<u8> {
+    let renamed = list.iter().map(|&number| match number {
+        NUMBER_OF_FNC2 => 96,
+        number => number,
+    });
+    renamed.collect()
+}
+
 /// The set that a START begins: 0 is set A, 1 is B, 2 is C.
-fn set_of(start: u8) -> usize {
+pub fn set_of(start: u8) -> usize {
     usize::from(start - 103)
 }
 
 /// The current set after this data number.
-fn set_after(set: usize, number: u8) -> usize {
+pub fn set_after(set: usize, number: u8) -> usize {
     match (number, set) {
         (99, 0 | 1) => 2,
         (100, 0 | 2) => 1,
@@ -125,7 +144,7 @@ fn spelled(set: usize, number: u8, text: &mut Vec<u32>) {
         (1, 0..=94) => text.push(0x20 + value),
         (1, 95) => text.push(0xF7),
         (_, 96) => text.push(0x17B),
-        (_, 97) => text.push(0x17A),
+        (_, NUMBER_OF_FNC2) => text.push(FNC2),
         (_, 98) => text.push(0x17D),
         (_, 99) => text.push(SWITCH[2]),
         _ => text.push(0x17C),

@@ -318,14 +318,15 @@ pub fn lengths(run: &Run) -> Result<Tally> {
 }
 
 /// Every n and every job with buffer lengths close to the one that is needed: a list of any
-/// numbers, and a list in each set alone, so that spell and scan write the most (509 and 508
-/// elements if n is 255) and the least.
+/// numbers, the same without 97, so that encode takes its spelling, and a list in each set alone,
+/// so that spell and scan write the most (509 and 508 elements if n is 255) and the least.
 pub fn rooms(run: &Run) -> Result<Tally> {
     run.blocks(LIMIT as u64, |worker, block| {
         let mut random = Random::new(run.seed, "rooms", block);
         let n = block as usize + 1;
         let list = inputs::list(&mut random, n);
         rooms_of(worker, &mut random, &list)?;
+        rooms_of(worker, &mut random, &model::without_97(&list))?;
         (0..3).try_for_each(|set| {
             let list = inputs::list_in(&mut random, n, set);
             rooms_of(worker, &mut random, &list)

@@ -2,10 +2,10 @@
 //! word of a case.
 use compare::ask::{ask, patterns, place_by_halving, place_from_left, Crate, Tries};
 use compare::check::{Fault, Subject, Worker};
-use compare::face::True;
+use compare::face::{Face, True};
 use compare::listed::LIST;
-use compare::lists::SHIFTED;
-use compare::model::{check, moved, unshifted, Model, STOP};
+use compare::lists::{SHIFTED, WITH_97};
+use compare::model::{check, moved, retired, unshifted, Model, STOP};
 use compare::report::{case_of, case_word};
 
 /// The code points of a text.
@@ -133,6 +133,108 @@ fn labels_with_a_shift() {
     ] {
         assert_eq!(unshifted(list), (bytes.to_vec(), any), "{list:?}");
     }
+}
+
+/// The texts with ź of request 12: what the crate writes for each, if it accepts it, and what the
+/// library answers, with every room that is tried.
+#[test]
+fn labels_with_fnc2() {
+    let model = Model::new(patterns());
+    let labels: [(&str, &[u8], (u32, usize)); 15] = [
+        ("Ɓź", &[104, 97], (19, 1)),
+        ("Àź", &[103, 97], (19, 1)),
+        ("ƁAźź", &[104, 33, 97, 97], (19, 2)),
+        ("ÀƁź", &[103, 100, 97], (19, 2)),
+        ("Ć97Ɓź", &[105, 97, 100, 97], (19, 4)),
+        ("Ć9Ź7Àź", &[105, 102, 97, 101, 97], (19, 5)),
+        ("ƁźĆ97", &[104, 97, 99, 97], (19, 1)),
+        ("Ɓź€", &[], (3, 2)),
+        ("Ɓ€ź", &[], (3, 1)),
+        ("ƁźĆ9", &[], (3, 4)),
+        ("ƁźĆź", &[], (3, 3)),
+        ("Ćź", &[], (3, 1)),
+        ("Ć9ź", &[], (3, 2)),
+        ("ź", &[], (3, 0)),
+        ("źƁ", &[], (3, 0)),
+    ];
+    let mut worker = Worker::new(&True, &model);
+    for (text, list, answer) in labels {
+        let points = points(text);
+        let said = match list {
+            [] => Crate::Character,
+            _ => Crate::Row(model.row_of_list(list)),
+        };
+        assert_eq!(ask(&points), said, "{text}");
+        for room in [0, 34, 35, 46, 2829] {
+            assert_eq!(True.encode(&points, &mut vec![0; room]), answer, "{text}");
+            let number = worker.encode(&points, room, 0xA7).expect("no difference");
+            assert_eq!(number, answer.0, "{text}");
+        }
+        worker.drop_in(&points, &said).expect("no difference");
+        worker.text_law(&points).expect("no difference");
+    }
+    assert_eq!(check(&[104, 97]), 98);
+}
+
+/// ź among more than 255 symbols is 19, and a code point without a number after it is 3. 97 as a
+/// pair and as a check is accepted.
+#[test]
+fn fnc2_and_the_limit() {
+    let model = Model::new(patterns());
+    let mut worker = Worker::new(&True, &model);
+    for (text, answer) in [
+        (format!("Ɓ{}ź", "A".repeat(253)), (19, 254)),
+        (format!("Ɓ{}ź", "A".repeat(254)), (19, 255)),
+        (format!("Ć{}Ɓź", "97".repeat(300)), (19, 602)),
+        (format!("Ɓź{}€", "A".repeat(300)), (3, 302)),
+        (format!("Ɓ{}", "A".repeat(255)), (4, 256)),
+        ("ƁŻ".into(), (0, 2)),
+        ("Ć97".into(), (0, 2)),
+        (format!("Ć{}", "97".repeat(254)), (0, 255)),
+    ] {
+        let points = points(&text);
+        assert_eq!(True.encode(&points, &mut [0; 2829]), answer, "{text}");
+        for room in [0, 46, 2829] {
+            worker.encode(&points, room, 0xA7).expect("no difference");
+        }
+        worker
+            .drop_in(&points, &ask(&points))
+            .expect("no difference");
+    }
+    assert_eq!(check(&[104, 96]), 97);
+}
+
+/// The texts and bytes that the documents give for lists with 97 are the model's and the library's;
+/// the crate writes the row of each text, and the library refuses it by 19 if it has a ź.
+#[test]
+fn lists_with_97() {
+    let model = Model::new(patterns());
+    let mut worker = Worker::new(&True, &model);
+    for (list, text, bytes) in WITH_97 {
+        let points = points(text);
+        assert_eq!(model.spell(list, 600).front, points, "{list:?}");
+        assert_eq!(model.scan(list, 508).front, bytes, "{list:?}");
+        assert_eq!(ask(&points), Crate::Row(model.row_of_list(list)), "{text}");
+        let answer = match retired(&points) {
+            Some(place) => (19, place),
+            None => (0, list.len()),
+        };
+        assert_eq!(True.encode(&points, &mut [0; 2829]), answer, "{text}");
+        worker.list_law(list).expect("no difference");
+    }
+    assert_eq!(
+        WITH_97.map(|(_, text, _)| retired(&points(text))),
+        [
+            Some(1),
+            Some(1),
+            None,
+            Some(2),
+            Some(4),
+            Some(1),
+            Some(2),
+            Some(2)
+        ]
+    );
 }
 
 /// Every name of the list is a row of docs/DIFFERENCES.md, and the list leaves out no row.

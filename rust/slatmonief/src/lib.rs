@@ -145,9 +145,13 @@ job! {
     ///
     /// The text names its code sets: it begins with À, Ɓ or Ć for set A, B or C, and switches to
     /// another set by the same letters. Other letters are written for symbols that have no
-    /// character of their own: Ź for FNC1, ź for FNC2, Ż for FNC3, ż for FNC4, Ž for Shift and, in
-    /// set B, ÷ for DEL. Set C takes digits in pairs, Ź and the switches; a Ź inside a pair gives
-    /// the same row as a Ź ahead of the pair.
+    /// character of their own: Ź for FNC1, Ż for FNC3, ż for FNC4, Ž for Shift and, in set B, ÷ for
+    /// DEL. Set C takes digits in pairs, Ź and the switches; a Ź inside a pair gives the same row
+    /// as a Ź ahead of the pair.
+    ///
+    /// ź for FNC2 is retired: before version 1.3.0 it was 97 in sets A and B. A row that has this
+    /// symbol is still read, spelled, scanned and drawn. In set C, 97 is a pair of digits, and ź
+    /// is refused by 3, as it always was.
     ///
     /// Shift does not change the set in which the next code point is encoded, as in barcoders:
     /// `ÀŽa` is refused, since set A has no `a`. [`scan`] does shift: `a` is 65 in set B, and 65 in
@@ -160,12 +164,14 @@ job! {
     /// | 1 | a value is not a Unicode scalar value | its place |
     /// | 2 | the text has fewer than two UTF-8 bytes | 0 |
     /// | 3 | parsing stops | the place; the length of the text if a digit is left over |
+    /// | 19 | the text has a ź (FNC2), which is retired | the place of the first |
     /// | 4 | more than 255 symbols are needed | the symbols needed |
     /// | 5 | `row` is too short | the cells needed |
     ///
     /// Parsing stops at place 0 if the text does not begin with À, Ɓ or Ć. Later it stops at a code
     /// point that has no number in the current set and, after the first digit of a pair, at
-    /// anything but a digit or Ź.
+    /// anything but a digit or Ź. Each refusal is tested over the whole text before the next, so
+    /// `Ɓź€` is refused by 3 at place 2.
     ///
     /// # Example
     ///
@@ -173,6 +179,10 @@ job! {
     /// let mut row = [7; 40];
     /// assert_eq!(slatmonief::encode(&[0xC0], &mut row), Ok(1));
     /// assert_eq!(row[35..], [7; 5]);
+    ///
+    /// let refusal = slatmonief::encode(&[0xC0, 0x17A], &mut row).unwrap_err();
+    /// assert_eq!((refusal.number(), refusal.second()), (19, 1));
+    /// assert_eq!(refusal.to_string(), "refusal 19: ź (FNC2) at place 1 is retired");
     /// ```
     encode, slatmonief_encode, Encode, text: u32, row: u8
 }
@@ -191,7 +201,8 @@ job! {
 job! {
     /// Reads a row back to its symbol list; returns n, the number of symbols.
     ///
-    /// It accepts exactly the rows that [`encode`] writes.
+    /// It accepts exactly the rows that [`draw`] writes: those that [`encode`] writes, and those of
+    /// labels with FNC2, which encode wrote before version 1.3.0.
     ///
     /// # Refusals, in this order
     ///
@@ -231,8 +242,12 @@ job! {
 job! {
     /// Spells a symbol list as a text, in code points; returns the number of code points written.
     ///
-    /// It is the one text that [`encode`] turns into this list and that has no Ź (FNC1) inside a
+    /// It is the one text that barcoders turns into this list and that has no Ź (FNC1) inside a
     /// pair. So 103 98 65, with a Shift, is spelled `ÀŽ\u{1}`, while [`scan`] sends `a` for it.
+    ///
+    /// [`encode`] turns this text into the list again, unless the text has a ź: 97 (FNC2) in set A
+    /// or B is still spelled ź, and encode refuses it by 19. To print such a row again, use
+    /// [`draw`].
     ///
     /// # Refusals, in this order
     ///
@@ -241,6 +256,18 @@ job! {
     /// | 10 | the list is empty or has more than 255 symbols | its length |
     /// | 13 | place 0 is not a START, or a later number is above 102 | the first such place |
     /// | 5 | `text` is too short | the code points needed |
+    ///
+    /// # Example
+    ///
+    /// ```
+    /// // The row of an archived label with FNC2.
+    /// let row = slatmonief::draw_symbols(&[104, 33, 97])?;
+    /// let symbols = slatmonief::read_row(&row)?;
+    /// assert_eq!(slatmonief::spell_symbols(&symbols)?, "ƁAź");
+    /// assert_eq!(slatmonief::encode_str("ƁAź").unwrap_err().number(), 19);
+    /// assert_eq!(slatmonief::draw_symbols(&symbols)?, row);
+    /// # Ok::<(), slatmonief::Refusal>(())
+    /// ```
     spell, slatmonief_spell, Spell, symbols: u8, text: u32
 }
 job! {
@@ -331,7 +358,7 @@ fn cells(n: usize) -> usize {
 /// Encodes a text like [`encode`], and returns the row.
 ///
 /// A `&str` has only scalar values and the row always has enough room, so refusals 1 and 5 do not
-/// occur.
+/// occur; 2, 3, 19 and 4 do.
 pub fn encode_str(text: &str) -> Result<Vec<u8>, Refusal> {
     let points: Vec<u32> = text.chars().map(u32::from).collect();
     lent::<u8, MOST_CELLS>(|row| encode(&points, row), cells)

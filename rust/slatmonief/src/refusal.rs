@@ -89,6 +89,7 @@ impl fmt::Display for Refusal {
             (13, _) => write!(f, "the number at place {m} may not stand there"),
             (14, _) => write!(f, "the check is wrong, {m} would be right"),
             (15, _) => write!(f, "the cell at place {m} is not the stop's"),
+            (19, _) => write!(f, "ź (FNC2) at place {m} is retired"),
             (20, _) => write!(f, "a record of {m} bytes has no head"),
             (21, _) => write!(f, "the record's version is {m} and not 1"),
             (22, _) if m == 0 => write!(f, "the record declares no symbols"),

@@ -61,7 +61,8 @@ fn every_job_at_every_room() {
         "ƁŽ",
         "Ɓ÷",
         "ƁAIMĆ1234",
-        "À\u{0}\u{1f} _ŻźŽżŹĆ00ŹÀ",
+        "À\u{0}\u{1f} _ŻŽżŹĆ00ŹÀ",
+        "Ć97",
     ] {
         let row = encode_str(text).unwrap();
         let symbols = read_row(&row).unwrap();
@@ -108,6 +109,82 @@ fn shift_shifts_in_scan() {
     assert_eq!(encode_str("ÀŽa").unwrap_err().second(), 2);
 }
 
+/// A text that parses and has a ź is refused by 19 at the first one, whatever the room and however
+/// many symbols; the buffer is as it was lent.
+#[test]
+fn fnc2_is_retired() {
+    let long = format!("Ć{}Ɓ{}ź", "97".repeat(3), "A".repeat(300));
+    let labels: [(&str, u32, usize); 14] = [
+        ("Ɓź", 19, 1),
+        ("Àź", 19, 1),
+        ("ƁAźBź", 19, 2),
+        ("Ć97Ɓaź", 19, 5),
+        ("Ć9Ź7ÀźĆ97", 19, 5),
+        ("ÀŽź", 19, 2),
+        (&long, 19, 308),
+        ("Ɓź€", 3, 2),
+        ("ƁźĆ1", 3, 4),
+        ("ÀźaƁź", 3, 2),
+        ("Ćź", 3, 1),
+        ("Ć9ź7", 3, 2),
+        ("ź", 3, 0),
+        ("źƁ", 3, 0),
+    ];
+    for (text, number, place) in labels {
+        for room in [0, 1, 34, 35, 45, 46, 47, MOST_CELLS] {
+            let mut row = vec![7; room];
+            let refusal = encode(&points(text), &mut row).unwrap_err();
+            assert_eq!(
+                (refusal.number(), refusal.second()),
+                (number, place),
+                "{text}"
+            );
+            assert_eq!(row, vec![7; room], "{text}");
+        }
+        assert_eq!(Code128::new(text).unwrap_err(), Error::Character, "{text}");
+    }
+    let no_scalar = encode(&[0x181, 0x17A, 0xD800], &mut []).unwrap_err();
+    assert_eq!((no_scalar.number(), no_scalar.second()), (1, 2));
+}
+
+/// 97 as a pair and as a check is encoded.
+#[test]
+fn the_number_97_without_fnc2() {
+    let row = encode_str("ƁŻ").unwrap();
+    assert_eq!(read_row(&row).unwrap(), [104, 96]);
+    let fnc2 = draw_symbols(&[104, 97]).unwrap();
+    assert_eq!(row[22..33], fnc2[11..22], "the check is 97");
+    let pair = encode_str("Ć97").unwrap();
+    assert_eq!(read_row(&pair).unwrap(), [105, 97]);
+    assert_eq!(pair[11..22], fnc2[11..22]);
+}
+
+/// Archived rows with FNC2 are drawn, read, spelled and scanned; encode refuses the spelling.
+#[test]
+fn rows_with_fnc2() {
+    let labels: [(&[u8], &str, &[u8], usize); 6] = [
+        (&[103, 97], "Àź", b"", 1),
+        (&[104, 97], "Ɓź", b"", 1),
+        (&[104, 33, 97, 34, 97], "ƁAźBź", b"AB", 2),
+        (&[105, 97, 101, 97, 65], "Ć97Àź\u{1}", b"97\x01", 4),
+        (&[103, 97, 99, 97], "ÀźĆ97", b"97", 1),
+        (&[104, 98, 97, 65], "ƁŽźa", b"a", 2),
+    ];
+    for (list, text, sent, place) in labels {
+        let row = draw_symbols(list).unwrap();
+        at_every_room(9, &row, list.len(), |out| draw(list, out));
+        at_every_room(200, list, list.len(), |out| read(&row, out));
+        let spelled = points(text);
+        assert_eq!(spell_symbols(list).unwrap(), text);
+        at_every_room(7, &spelled, spelled.len(), |out| spell(list, out));
+        at_every_room(200, sent, sent.len(), |out| scan(list, out));
+        let record = pack_row(&row).unwrap();
+        assert_eq!(unpack_record(&record).unwrap(), row);
+        let refusal = encode_str(text).unwrap_err();
+        assert_eq!((refusal.number(), refusal.second()), (19, place), "{text}");
+    }
+}
+
 #[test]
 fn refusals_leave_the_buffer_and_speak() {
     let mut row = [9; 40];
@@ -137,6 +214,12 @@ fn refusals_leave_the_buffer_and_speak() {
             3,
             1,
             "refusal 3: parsing stops at place 1",
+        ),
+        (
+            encode(&points("Ɓź"), &mut row),
+            19,
+            1,
+            "refusal 19: ź (FNC2) at place 1 is retired",
         ),
         (
             encode(&points(&format!("Ɓ{}", "A".repeat(255))), &mut row),
@@ -328,9 +411,14 @@ fn the_signatures_of_barcoders() {
     );
     assert_eq!(Code128::new("A").unwrap_err(), Error::Length);
     assert_eq!(Code128::new("ÀŽa").unwrap_err(), Error::Character);
+    assert_eq!(Code128::new("Ɓź").unwrap_err(), Error::Character);
     assert_eq!(
         Code128::new(format!("Ɓ{}", "A".repeat(255))).unwrap_err(),
         Error::Length
+    );
+    assert_eq!(
+        Code128::new(format!("Ɓ{}ź", "A".repeat(255))).unwrap_err(),
+        Error::Character
     );
     assert_eq!(Error::Character.to_string(), "Barcode data is invalid");
 }

@@ -1,12 +1,12 @@
--- `code128::encode` meets its contract: where parsing stops, what is asked before; else the limit,
--- and after it the row.
+-- `code128::encode` meets its contract: where parsing stops, what is asked before; else the first ź,
+-- the limit, and after it the row.
 -- Assumes nothing.
 use mathlib.Core.Path.{sym, _∙_}
 use native.Mathlib.Omega.{arith}
 use Rattle.helpers.specs.Numbers.{refusalNumber}
-use Rattle.helpers.specs.declared.Refusal.the-variants.{Symbols}
+use Rattle.helpers.specs.declared.Refusal.the-variants.{Symbols, Retired}
 use Rattle.helpers.proofs.Gives.{refused, handed-on}
-use Rattle.code128.proofs.Encodes.{encode-stops, encode-long, encode-fits}
+use Rattle.code128.proofs.Encodes.{encode-stops, encode-retired, encode-long, encode-fits}
 use borrow.Author.Needs.{needs}
 use Rattle.code128.proofs.encode.Statement.{statement}
 use Rattle.code128.proofs.encode.Tie as tie
@@ -23,6 +23,9 @@ enum-known-place c = search needs
 stopped-requires : tie.Need-stopped-requires
 stopped-requires c κs = search needs
 
+enum-known-place-2 : tie.Need-enum-known-place-2
+enum-known-place-2 c = search needs
+
 enum-known-n : tie.Need-enum-known-n
 enum-known-n c = search needs
 
@@ -30,7 +33,7 @@ returns : tie.Need-returns
 unfolding refusalNumber
 returns c =
     let p = c .before .before .before .before .before in
-    refused Symbols _ (encode-long _ _ _ (sym (p .parse .ensures .result) ∙ c .before .before .n .given .1) (omega arith))
+    refused Symbols _ (encode-long _ _ _ _ (p .parse .ensures) _ _ (c .before .before .n .given .1) (omega arith))
 
 sub-write-row : tie.Need-sub-write-row
 sub-write-row c = search needs
@@ -44,20 +47,24 @@ part-write-row-end c = search needs
 write-row-requires : tie.Need-write-row-requires
 write-row-requires c κs =
     let p = c .before .before .before .before .before .before .before .before in
-    encode-fits _ _ (p .parse .ensures) (c .before .before .before .before .before .n .given .1) (omega arith) (omega arith) .proper
+    encode-fits _ _ _ _ (p .parse .ensures) _ (c .before .before .before .before .before .n .given .1) (omega arith) (omega arith) .proper
 
 returns-2 : tie.Need-returns-2
 returns-2 c =
     let p = c .before .before .before .before .before in
-    handed-on _ (c .stopped .ensures ∙ sym (encode-stops _ _ _ (sym (p .parse .ensures .result) ∙ c .before .before .place .given .1)))
+    handed-on _ (c .stopped .ensures ∙ sym (encode-stops _ _ _ _ (p .parse .ensures) _ _ (c .before .before .place .given .1)))
+
+returns-3 : tie.Need-returns-3
+unfolding refusalNumber
+returns-3 c = refused Retired _ (encode-retired _ _ _ _ (c .before .before .before .before .parse .ensures) _ _ (c .before .place2 .given .1))
 
 same-length : tie.Need-same-length
 same-length c = search needs
 
-returns-3 : tie.Need-returns-3
-returns-3 c =
+returns-4 : tie.Need-returns-4
+returns-4 c =
     let p = c .before .before .before .before .before .before .before .before .before .before .before in
-    let fits = encode-fits _ _ (p .parse .ensures) (c .before .before .before .before .before .before .before .before .n .given .1) (omega arith) (omega arith) in
+    let fits = encode-fits _ _ _ _ (p .parse .ensures) _ (c .before .before .before .before .before .before .before .before .n .given .1) (omega arith) (omega arith) in
     rw (fits .draws _) (c .before .before .write-row .ensures)
 
 pub encode-spec : {M : Type 1} → statement M
@@ -68,6 +75,7 @@ encode-spec =
     parse-requires
     enum-known-place
     stopped-requires
+    enum-known-place-2
     enum-known-n
     returns
     sub-write-row
@@ -75,5 +83,6 @@ encode-spec =
     part-write-row-end
     write-row-requires
     returns-2
+    returns-3
     same-length
-    returns-3)
+    returns-4)

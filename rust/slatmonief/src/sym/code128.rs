@@ -8,9 +8,13 @@
 //! assert_eq!(encoded.len(), 11 * 11 + 13);
 //! ```
 //!
-//! It answers as barcoders does, with one difference: data of more than 255 symbols is refused by
-//! [`Error::Length`]. [`crate::encode`] describes the data; [`crate::encode_str`] also says at
-//! which place the data cannot be encoded.
+//! It answers as barcoders does, with two differences:
+//!
+//! - data with ź (FNC2), which barcoders takes in sets A and B, is refused by [`Error::Character`];
+//! - data of more than 255 symbols is refused by [`Error::Length`], if it has no ź.
+//!
+//! [`crate::encode`] describes the data; [`crate::encode_str`] also says at which place the data
+//! cannot be encoded.
 use crate::error::{Error, Result};
 
 /// A Code 128 barcode.
@@ -20,13 +24,13 @@ pub struct Code128(Vec<u8>);
 impl Code128 {
     /// Makes a barcode of this data.
     ///
-    /// Returns [`Error::Character`] if a character cannot be encoded at its place or a digit is
-    /// left over, and [`Error::Length`] if the data has fewer than two UTF-8 bytes or needs more
-    /// than 255 symbols.
+    /// Returns [`Error::Character`] if a character cannot be encoded at its place, a digit is left
+    /// over, or the data has a ź (FNC2); and [`Error::Length`] if the data has fewer than two UTF-8
+    /// bytes or needs more than 255 symbols.
     pub fn new<T: AsRef<str>>(data: T) -> Result<Code128> {
         match crate::encode_str(data.as_ref()) {
             Ok(row) => Ok(Code128(row)),
-            Err(refusal) if refusal.number() == 3 => Err(Error::Character),
+            Err(refusal) if matches!(refusal.number(), 3 | 19) => Err(Error::Character),
             Err(_) => Err(Error::Length),
         }
     }

@@ -1,22 +1,23 @@
 -- `tokens::parse::parse` meets its contract: one code point a turn.
 -- Assumes nothing.
 use Prim.Native.Nat.{_-_}
-use mathlib.Core.Path.{sym, ap, _∙_}
+use mathlib.Core.Path.{sym, _∙_}
 use mathlib.Core.Logic.{⊎-elim}
 use native.Mathlib.Omega.{arith}
 use borrow.Author.Needs.{needs}
+use borrow.Author.Tests.{not-true, not-false}
 use lib.ListN.{length}
 use Rattle.tokens.specs.Sets.{setOf}
-use Rattle.tokens.specs.Tokens.{stateOf, stepOf}
-use Rattle.tokens.proofs.Parsing.{Parsing, parsing-begin, parsing-hold, parsing-write, parsing-halt, parsing-end, parsing-short}
+use Rattle.tokens.specs.Tokens.{stateOf, Does}
+use Rattle.tokens.proofs.Parsing.{Parsing, parsing-begin, parsing-hold, parsing-write, parsing-retired, parsing-halt, parsing-end, parsing-noted, parsing-short}
 use Rattle.tokens.proofs.parse.parse.Statement.{statement}
 use Rattle.tokens.proofs.parse.parse.Tie as tie
 
 abbrev Inv-loop : tie.InvT-loop
-Inv-loop text list₀ state₀ n₀ i₀ list state n i = Parsing text list₀ list (stateOf state) n i
+Inv-loop text list₀ state₀ n₀ first₀ i₀ list state n first i = Parsing text list₀ list (stateOf state) n first i
 
 abbrev μ-loop : tie.MeasureT-loop
-μ-loop text list₀ state₀ n₀ i₀ list state n i = length text - i
+μ-loop text list₀ state₀ n₀ first₀ i₀ list state n first i = length text - i
 
 loop-holds : tie.Need-loop-holds Inv-loop μ-loop
 unfolding stateOf setOf
@@ -38,10 +39,10 @@ same-length : tie.Need-same-length Inv-loop μ-loop
 same-length c = search needs
 
 returns : tie.Need-returns Inv-loop μ-loop
-unfolding stepOf
+unfolding Does
 returns c =
     let taken = c .before .before in
-    parsing-halt (taken .before .before .before .loop .inv) (omega arith) (sym (taken .step .ensures) ∙ ap stepOf (c .enum-told .given .1))
+    parsing-halt (taken .before .before .before .loop .inv) (omega arith) (rw (c .enum-told .given .1) at (taken .step .ensures)) _
 
 enum-known-d : tie.Need-enum-known-d Inv-loop μ-loop
 enum-known-d c = search needs
@@ -55,6 +56,12 @@ push-requires c κs = search needs
 add-n : tie.Need-add-n Inv-loop μ-loop
 add-n c = search needs
 
+enum-told-2 : tie.Need-enum-told-2 Inv-loop μ-loop
+enum-told-2 c = search needs
+
+shorter-requires : tie.Need-shorter-requires Inv-loop μ-loop
+shorter-requires c κs = search needs
+
 add-i : tie.Need-add-i Inv-loop μ-loop
 add-i c = search needs
 
@@ -62,13 +69,15 @@ loop-less : tie.Need-loop-less Inv-loop μ-loop
 loop-less c = search needs
 
 loop-again : tie.Need-loop-again Inv-loop μ-loop
-unfolding stepOf stateOf
+unfolding Does stateOf
 loop-again c =
     let taken = c .before in
     let inv = taken .before .before .before .loop .inv in
     ⊎-elim
-    (λ w. rw (w .3, w .4, w .5) (parsing-hold inv (omega arith) (sym (taken .step .ensures) ∙ ap stepOf (w .1 .given .1))))
-    (λ w. rw (w .7, w .8, w .9, w .4 .ensures) (parsing-write inv (omega arith) (sym (taken .step .ensures) ∙ ap stepOf (w .1 .given .1))))
+    (λ w. rw (w .3, w .4, w .5, w .6) (parsing-hold inv (omega arith) (rw (w .1 .given .1) at (taken .step .ensures))))
+    (⊎-elim
+    (λ w. rw (w .7, w .8, w .9, w .10, w .4 .ensures) (parsing-write inv (omega arith) (rw (w .1 .given .1) at (taken .step .ensures))))
+    (λ w. rw (w .3, w .4, w .5, w .6, w .2 .ensures) (parsing-retired inv (omega arith) (rw (w .1 .given .1) at (taken .step .ensures)))))
     (c .match .came)
 
 is-finished-requires : tie.Need-is-finished-requires Inv-loop μ-loop
@@ -78,13 +87,21 @@ same-length-2 : tie.Need-same-length-2 Inv-loop μ-loop
 same-length-2 c = search needs
 
 returns-2 : tie.Need-returns-2 Inv-loop μ-loop
-returns-2 c = parsing-end (c .before .before .before .loop .inv) (omega arith) (sym (c .before .is-finished .ensures) ∙ c .if1 .taken)
+returns-2 c = parsing-short (c .before .before .before .loop .inv) (omega arith) (sym (c .before .is-finished .ensures) ∙ not-true _ (c .if1 .taken)) _
 
 same-length-3 : tie.Need-same-length-3 Inv-loop μ-loop
 same-length-3 c = search needs
 
 returns-3 : tie.Need-returns-3 Inv-loop μ-loop
-returns-3 c = parsing-short (c .before .before .before .loop .inv) (omega arith) (sym (c .before .is-finished .ensures) ∙ c .if1 .left)
+returns-3 c =
+    parsing-noted (c .before .before .before .before .loop .inv) (omega arith) (sym (c .before .before .is-finished .ensures) ∙ not-false _ (c .before .if1 .left)) (omega arith) _
+
+same-length-4 : tie.Need-same-length-4 Inv-loop μ-loop
+same-length-4 c = search needs
+
+returns-4 : tie.Need-returns-4 Inv-loop μ-loop
+returns-4 c =
+    parsing-end (c .before .before .before .before .loop .inv) (omega arith) (sym (c .before .before .is-finished .ensures) ∙ not-false _ (c .before .if1 .left)) (omega arith)
 
 pub parse-spec : {M : Type 1} → statement M
 parse-spec =
@@ -103,6 +120,8 @@ parse-spec =
     enum-known-m
     push-requires
     add-n
+    enum-told-2
+    shorter-requires
     add-i
     loop-less
     loop-again
@@ -110,4 +129,6 @@ parse-spec =
     same-length-2
     returns-2
     same-length-3
-    returns-3)
+    returns-3
+    same-length-4
+    returns-4)

@@ -1,11 +1,12 @@
 -- `tokens::parse::step_free` meets its contract: outside set C, a first digit there, or any other
 -- code point.
 -- Assumes nothing.
-use mathlib.Core.Path.{sym, _∙_}
+use mathlib.Core.Path.{refl, sym, _∙_}
 use native.Mathlib.Omega.{arith}
 use borrow.Author.Tests.{not-true, not-false}
 use Rattle.paper.specs.Crate.{step}
-use Rattle.tokens.specs.Tokens.{stepOf}
+use Rattle.tokens.specs.Tokens.{Does}
+use Rattle.tokens.proofs.Lookups.{not-ź}
 use Rattle.paper.proofs.Moves.{digit-bounds}
 use borrow.Author.Needs.{needs}
 use Rattle.tokens.proofs.parse.step_free.Statement.{statement}
@@ -31,8 +32,11 @@ cast-t7 : tie.Need-cast-t7
 cast-t7 c = omega (arith, digit-bounds _ (sym (c .before .is-digit .ensures) ∙ c .if2 .taken))
 
 returns-2 : tie.Need-returns-2
-unfolding step stepOf
-returns-2 c = rw (sym (c .before .before .before .has-pairs .ensures) ∙ not-false _ (c .before .before .if1 .left), ← c .before .is-digit .ensures, c .if2 .taken)
+unfolding step Does
+returns-2 c = (
+  rw (sym (c .before .before .before .has-pairs .ensures) ∙ not-false _ (c .before .before .if1 .left), ← c .before .is-digit .ensures, c .if2 .taken) refl,
+  not-ź _ (λ e. omega (arith, digit-bounds _ (sym (c .before .is-digit .ensures) ∙ c .if2 .taken))),
+)
 
 unit-requires-2 : tie.Need-unit-requires-2
 unit-requires-2 c κs = search needs

@@ -1,11 +1,12 @@
 -- `tokens::parse::step_held` meets its contract: the second digit, Ź, or neither.
 -- Assumes nothing.
-use mathlib.Core.Path.{sym, _∙_}
+use mathlib.Core.Path.{refl, sym, _∙_}
 use native.Mathlib.Omega.{arith}
 use borrow.Author.Tests.{ne-eqb}
 use Rattle.paper.specs.Crate.{step}
 use Rattle.tokens.specs.Sets.{setOf}
-use Rattle.tokens.specs.Tokens.{stateOf, stepOf}
+use Rattle.tokens.specs.Tokens.{stateOf, Does}
+use Rattle.tokens.proofs.Lookups.{not-ź}
 use Rattle.paper.proofs.Moves.{digit-bounds}
 use borrow.Author.Needs.{needs}
 use Rattle.tokens.proofs.parse.step_held.Statement.{statement}
@@ -27,15 +28,18 @@ add-t7 : tie.Need-add-t7
 add-t7 c = omega (arith, digit-bounds _ (sym (c .before .is-digit .ensures) ∙ c .if1 .taken))
 
 returns : tie.Need-returns
-unfolding step stepOf stateOf setOf
-returns c = rw (← c .before .is-digit .ensures, c .if1 .taken)
+unfolding step Does stateOf setOf
+returns c = (
+  rw (← c .before .is-digit .ensures, c .if1 .taken) refl,
+  not-ź _ (λ e. omega (arith, digit-bounds _ (sym (c .before .is-digit .ensures) ∙ c .if1 .taken))),
+)
 
 returns-2 : tie.Need-returns-2
-unfolding step stepOf stateOf
-returns-2 c = rw (← c .before .before .is-digit .ensures, c .before .if1 .left, c .if2 .taken)
+unfolding step Does stateOf
+returns-2 c = (rw (← c .before .before .is-digit .ensures, c .before .if1 .left, c .if2 .taken) refl, not-ź _ (λ e. omega (arith, c .if2 .taken)))
 
 returns-3 : tie.Need-returns-3
-unfolding step stepOf
+unfolding step Does
 returns-3 c = rw (← c .before .before .is-digit .ensures, c .before .if1 .left, ne-eqb _ _ (c .if2 .left))
 
 pub step-held-spec : {M : Type 1} → statement M

@@ -1,8 +1,9 @@
--- `tokens::parse::unit` meets its contract: a number and the set after it, or none.
+-- `tokens::parse::unit` meets its contract: a number and the set after it, FNC2, or none.
 -- Assumes nothing.
+use mathlib.Core.Path.{refl, sym, _∙_}
 use Rattle.paper.specs.Crate.{listed}
-use Rattle.tokens.specs.Sets.{numbered}
-use Rattle.tokens.specs.Tokens.{stateOf, stepOf}
+use Rattle.tokens.specs.Tokens.{stateOf, Does}
+use Rattle.tokens.proofs.Lookups.{unit-not-ź, retired-listed, looked-nothing}
 use borrow.Author.Needs.{needs}
 use Rattle.tokens.proofs.parse.unit.Statement.{statement}
 use Rattle.tokens.proofs.parse.unit.Tie as tie
@@ -19,14 +20,32 @@ next-requires c κs = search needs
 enum-told : tie.Need-enum-told
 enum-told c = search needs
 
+enum-told-2 : tie.Need-enum-told-2
+enum-told-2 c = search needs
+
 returns : tie.Need-returns
-unfolding listed stepOf stateOf numbered
-returns c = rw (← c .before .before .before .before .lookup .ensures, c .before .before .m .given .1, c .next .ensures)
+unfolding listed Does stateOf
+returns c =
+    let both = unit-not-ź _ _ _ (sym (c .before .before .m .given .1) ∙ c .before .before .before .before .lookup .ensures) in
+    (rw (both .0, c .next .ensures) refl, both .1)
 
 returns-2 : tie.Need-returns-2
-unfolding listed stepOf numbered
-returns-2 c = rw (← c .before .before .lookup .ensures, c .enum-told .given .1)
+unfolding Does
+returns-2 c = retired-listed _ _ (sym (c .enum-told .given .1) ∙ c .before .before .lookup .ensures)
+
+returns-3 : tie.Need-returns-3
+unfolding listed Does
+returns-3 c = rw (looked-nothing _ (sym (c .enum-told2 .given .1) ∙ c .before .before .lookup .ensures)) refl
 
 pub unit-spec : {M : Type 1} → statement M
 unit-spec =
-    tie.close (tie.spec lookup-requires enum-known-m next-requires enum-told returns returns-2)
+    tie.close
+    (tie.spec
+    lookup-requires
+    enum-known-m
+    next-requires
+    enum-told
+    enum-told-2
+    returns
+    returns-2
+    returns-3)
