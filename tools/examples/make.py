@@ -1230,6 +1230,57 @@ that label. 97 in set A or B is spelled ź and sends nothing; in set C it is the
     ([103, 98, 97, 65], "ÀŽź\x01", "\x01"), ([104, 98, 97, 65], "ƁŽźa", "a"), ([103, 97, 98, 65], "ÀźŽ\x01", "a"), ([104, 97, 98, 65, 97], "ƁźŽaź", "\x01"),
 ])
 
+# ================================================================ l. two blocks exchanged
+
+title("l. two blocks exchanged")
+
+
+def traded(s, i, j):
+    """The cells of the row of s with blocks i and j exchanged, the check left as drawn."""
+    cells = good(s)
+    a, b = slice(11 * i, 11 * i + 11), slice(11 * j, 11 * j + 11)
+    cells[a], cells[b] = cells[b], cells[a]
+    return cells
+
+
+TWELVE, LAST103, LAST206 = [105, 12, 34], [104, 1] + [33] * 102 + [2], [104, 1] + [33] * 205 + [2]
+entries = []
+for s, i, j, blocks in [
+    (TWELVE, 1, 2, (105, 34, 12, 82)), (AIM, 1, 2, (104, 41, 33, 45, 45)), (AIM, 2, 3, (104, 33, 45, 41, 45)), (AIM, 1, 3, (104, 45, 41, 33, 45)), ([104, 33, 33], 1, 2, (104, 33, 33, 100)),
+    ([103, 0, 102], 1, 2, (103, 102, 0, 101)),
+]:
+    cells = [int(d) for d in rows(*blocks).replace(" ", "")]
+    assert cells == traded(s, i, j), (s, i, j)
+    entries.append("(%s) exchanging %d with %d draws %s" % (listed(s), i, j, spaced(cells)))
+table("l", "exchangedRows", "Exchange", """
+Request 9 of document 02: rows with two data blocks exchanged, the crate's patterns put in their
+order by hand, the check left as drawn. Two that are alike leave the row as it was.
+""", entries)
+states("exchangedRows-hold", "map trades exchangedRows ≡ map traded exchangedRows")
+
+entries = []
+for shown, s, i, j, answer in [
+    (None, TWELVE, 1, 2, refuse(14, 60)), (None, AIM, 1, 2, refuse(14, 37)), (None, AIM, 2, 3, refuse(14, 41)), (None, AIM, 1, 3, refuse(14, 21)), (None, [103, 0, 102], 1, 2, refuse(14, 102)),
+    (None, [103, 102, 0], 1, 2, refuse(14, 101)),
+    # places 103 and 104, with check 74; 103 apart; 206 apart
+    ("104 ∷ 1 ∷ replicate 102 33 ++ (2 ∷ [])", LAST103, 103, 104, refuse(14, 2)),
+    ("104 ∷ 1 ∷ replicate 102 33 ++ (2 ∷ [])", LAST103, 1, 104, ("accept", 105, "104 ∷ 2 ∷ replicate 102 33 ++ (1 ∷ [])")),
+    ("104 ∷ 1 ∷ replicate 205 33 ++ (2 ∷ [])", LAST206, 1, 207, ("accept", 208, "104 ∷ 2 ∷ replicate 205 33 ++ (1 ∷ [])")),
+]:
+    short = answer if answer[0] == "refuse" else refuse(5, answer[1])
+    got = model.read(255, traded(s, i, j))
+    left = s[:i] + [s[j]] + s[i + 1:j] + [s[i]] + s[j + 1:]
+    assert got[:2] == answer[:2] and (got == answer if got[0] == "refuse" else got[2] == left), (s, i, j, got)
+    assert model.read(0, traded(s, i, j)) == short, (s, i, j)
+    shown_answer = "refuse %d %d" % answer[1:] if answer[0] == "refuse" else "accept %d (%s)" % answer[1:]
+    entries.append("(%s) between %d and %d gives %s short refuse %d %d" % (shown or listed(s), i, j, shown_answer, *short[1:]))
+table("l", "exchangings", "Between", """
+By hand from request 9: refusal 14 with the check of the exchanged list, whatever the length of the
+buffer; and an acceptance where the two places are 103 or 206 apart, or refusal 5 if there is no
+room. The sum moves by the difference of the two numbers times the distance of their places.
+""", entries, each=3)
+states("exchangings-hold", "map exchanges exchangings ≡ map threefold exchangings")
+
 # ================================================================ the files
 
 HEAD = '''-- Answers from outside that the definitions in specs/ are held to: from documents 01 and 02 by
@@ -1251,7 +1302,7 @@ use Rattle.paper.specs.Crate.{À, Ɓ, Ć, Parsed, symbols, parse}
 use Rattle.paper.specs.Settle.{settle, inside}
 use Rattle.paper.specs.Jobs.{encode, encodeWithFNC2, draw, read, spell, scan, pack, unpack}
 use Rattle.paper.specs.Labels.{Label, _⇒_}
-use Rattle.paper.specs.Damage.{redrawn, verdict, flipped, flippedVerdict}
+use Rattle.paper.specs.Damage.{redrawn, verdict, flipped, flippedVerdict, exchanged, exchangedVerdict}
 use Rattle.paper.proofs.Computes.{settle-computes, chars-computes, rules-computes, damage-computes}
 
 -- ---- how the tables are written
@@ -1319,6 +1370,8 @@ infix 15 _spells_scans_draws_
 infix 15 _becomes_
 infix 15 _at_drawn_gives_
 infix 15 _flippedAt_gives_
+infix 15 _exchanging_with_draws_
+infix 15 _between_and_gives_short_
 infix 15 _firstAt_gives_
 -- a job's input, the number of elements of the lent buffer, and the answer
 pub data Example : Type 0 where
@@ -1429,6 +1482,27 @@ flips (s flippedAt i gives a) = flippedVerdict s i ∷ read 255 (flipped i (row 
 
 unfoldable pub thrice : Flipped → List Answer
 thrice (s flippedAt i gives a) = a ∷ a ∷ a ∷ []
+
+-- a symbol list, two of its places, and its row with these two blocks exchanged
+pub data Exchange : Type 0 where
+  _exchanging_with_draws_ : List ℕ → ℕ → ℕ → List ℕ → Exchange
+
+unfoldable pub trades : Exchange → List ℕ
+trades (s exchanging i with j draws cs) = exchanged i j (row s)
+
+unfoldable pub traded : Exchange → List ℕ
+traded (s exchanging i with j draws cs) = cs
+
+-- a symbol list, two of its data places, and what read answers to that row, into 255 elements and
+-- into none: `exchangedVerdict` must say the first
+pub data Between : Type 0 where
+  _between_and_gives_short_ : List ℕ → ℕ → ℕ → Answer → Answer → Between
+
+unfoldable pub exchanges : Between → List Answer
+exchanges (s between i and j gives a short b) = exchangedVerdict s i j ∷ read 255 (exchanged i j (row s)) ∷ read 0 (exchanged i j (row s)) ∷ []
+
+unfoldable pub threefold : Between → List Answer
+threefold (s between i and j gives a short b) = a ∷ a ∷ b ∷ []
 
 -- a job, its input and the buffer lent to it; then the answer number, the second number and what
 -- the buffer holds after the call

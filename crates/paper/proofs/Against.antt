@@ -8,12 +8,13 @@ use Rattle.paper.specs.Rules.{runs}
 use Rattle.paper.specs.Jobs.{encode, encodeWithFNC2, draw, read, spell, scan, pack, unpack}
 use Rattle.paper.specs.Labels.{answered, expected}
 use Rattle.paper.proofs.Examples.{examples-computes, elevens, joined, asked, given, parsedAs, printedAs, answerOf, ofCrate, retired, passing, retires}
-use Rattle.paper.proofs.Examples.{kept, threeJobs, threeAnswers, settles, settled, ruled, twice, flips, thrice, called, left, unstarred, unstarredRecords}
-use Rattle.paper.proofs.Examples.{longest, order, published, publishedRows, crateChars, crateStop, crateWidths, crateBars, everyNumber, everySwitch}
-use Rattle.paper.proofs.Examples.{everyFunction, everyPair, foreignDigits, firstPoints, documented, randomly, randomlyWrong, checksOn, withFNC2, sweeps}
-use Rattle.paper.proofs.Examples.{readBack, readLengths, readBlocks, readWorn, readStops, readChecks, readLong, lists, badLists, drawShort, spellShort}
-use Rattle.paper.proofs.Examples.{scanShort, shiftEach, shiftBefore, shifting, packings, unpackings, settling, buffers, redrawings, flippings}
-use Rattle.paper.proofs.Examples.{fnc2Refused, fnc2Before, fnc2Beside, fnc2Swept, fnc2Rows, fnc2Lists}
+use Rattle.paper.proofs.Examples.{kept, threeJobs, threeAnswers, settles, settled, ruled, twice, flips, thrice, trades, traded, exchanges, threefold}
+use Rattle.paper.proofs.Examples.{called, left, unstarred, unstarredRecords, longest, order, published, publishedRows, crateChars, crateStop, crateWidths}
+use Rattle.paper.proofs.Examples.{crateBars, everyNumber, everySwitch, everyFunction, everyPair, foreignDigits, firstPoints, documented, randomly}
+use Rattle.paper.proofs.Examples.{randomlyWrong, checksOn, withFNC2, sweeps, readBack, readLengths, readBlocks, readWorn, readStops, readChecks, readLong}
+use Rattle.paper.proofs.Examples.{lists, badLists, drawShort, spellShort, scanShort, shiftEach, shiftBefore, shifting, packings, unpackings, settling}
+use Rattle.paper.proofs.Examples.{buffers, redrawings, flippings, fnc2Refused, fnc2Before, fnc2Beside, fnc2Swept, fnc2Rows, fnc2Lists, exchangedRows}
+use Rattle.paper.proofs.Examples.{exchangings}
 
 pub unstarred-hold : map (asked encode) unstarred ≡ map given unstarred
 unfolding examples-computes
@@ -230,3 +231,11 @@ fnc2Rows-hold = refl
 pub fnc2Lists-hold : map threeJobs fnc2Lists ≡ map threeAnswers fnc2Lists
 unfolding examples-computes
 fnc2Lists-hold = refl
+
+pub exchangedRows-hold : map trades exchangedRows ≡ map traded exchangedRows
+unfolding examples-computes
+exchangedRows-hold = refl
+
+pub exchangings-hold : map exchanges exchangings ≡ map threefold exchangings
+unfolding examples-computes
+exchangings-hold = refl

@@ -10,7 +10,7 @@ use Rattle.paper.specs.Rules.{longer, runs, nameOf, written, message, le
 use Rattle.paper.specs.Jobs.{most, possible, rowLength, symbolCount, possibleRow, parsed, encoder, encodeWithFNC2, notFNC2, encode, isStart, isData, wellFormed, ofList, draw, spell, scan, isCell, ofRow, fitsAt, withNumber, block, blocksFrom, looked, lastOf, wanted, read}
 use Rattle.paper.specs.Jobs.{bits, bytes, bytesFor, head, recordOf, pack, eight, unbytes, allZero, recordLength, versionOf, countOf, storedCells, unpack}
 use Rattle.paper.specs.Labels.{symbolsAndCheck, starred, expected, answered, shiftLabels, shiftExpected, shiftAnswered, retiredLabels}
-use Rattle.paper.specs.Damage.{blocksOf, redrawn, blind, verdict, flipped, flippedVerdict}
+use Rattle.paper.specs.Damage.{blocksOf, blockAt, over, redrawn, blind, acceptedIf, verdict, flipped, flippedVerdict, exchanged, exchangedList, exchangedVerdict}
 
 unfoldable pub iso15417-computes : Unit {0}
 unfolding widths barOf spaceOf drawn pattern stop same barCells wornOrUnknown foundIn found weighed check cells row next digits sent startOf isShift other readIn scannedFrom scanned count printed column points answers-computes
@@ -41,5 +41,5 @@ unfolding symbolsAndCheck starred expected answered shiftLabels shiftExpected sh
 labels-computes = tt
 
 unfoldable pub damage-computes : Unit {0}
-unfolding blocksOf redrawn blind verdict flipped flippedVerdict jobs-computes
+unfolding blocksOf blockAt over redrawn blind acceptedIf verdict flipped flippedVerdict exchanged exchangedList exchangedVerdict jobs-computes
 damage-computes = tt

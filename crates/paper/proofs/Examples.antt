@@ -17,7 +17,7 @@ use Rattle.paper.specs.Crate.{À, Ɓ, Ć, Parsed, symbols, parse}
 use Rattle.paper.specs.Settle.{settle, inside}
 use Rattle.paper.specs.Jobs.{encode, encodeWithFNC2, draw, read, spell, scan, pack, unpack}
 use Rattle.paper.specs.Labels.{Label, _⇒_}
-use Rattle.paper.specs.Damage.{redrawn, verdict, flipped, flippedVerdict}
+use Rattle.paper.specs.Damage.{redrawn, verdict, flipped, flippedVerdict, exchanged, exchangedVerdict}
 use Rattle.paper.proofs.Computes.{settle-computes, chars-computes, rules-computes, damage-computes}
 
 -- ---- how the tables are written
@@ -85,6 +85,8 @@ infix 15 _spells_scans_draws_
 infix 15 _becomes_
 infix 15 _at_drawn_gives_
 infix 15 _flippedAt_gives_
+infix 15 _exchanging_with_draws_
+infix 15 _between_and_gives_short_
 infix 15 _firstAt_gives_
 -- a job's input, the number of elements of the lent buffer, and the answer
 pub data Example : Type 0 where
@@ -195,6 +197,27 @@ flips (s flippedAt i gives a) = flippedVerdict s i ∷ read 255 (flipped i (row 
 
 unfoldable pub thrice : Flipped → List Answer
 thrice (s flippedAt i gives a) = a ∷ a ∷ a ∷ []
+
+-- a symbol list, two of its places, and its row with these two blocks exchanged
+pub data Exchange : Type 0 where
+  _exchanging_with_draws_ : List ℕ → ℕ → ℕ → List ℕ → Exchange
+
+unfoldable pub trades : Exchange → List ℕ
+trades (s exchanging i with j draws cs) = exchanged i j (row s)
+
+unfoldable pub traded : Exchange → List ℕ
+traded (s exchanging i with j draws cs) = cs
+
+-- a symbol list, two of its data places, and what read answers to that row, into 255 elements and
+-- into none: `exchangedVerdict` must say the first
+pub data Between : Type 0 where
+  _between_and_gives_short_ : List ℕ → ℕ → ℕ → Answer → Answer → Between
+
+unfoldable pub exchanges : Between → List Answer
+exchanges (s between i and j gives a short b) = exchangedVerdict s i j ∷ read 255 (exchanged i j (row s)) ∷ read 0 (exchanged i j (row s)) ∷ []
+
+unfoldable pub threefold : Between → List Answer
+threefold (s between i and j gives a short b) = a ∷ a ∷ b ∷ []
 
 -- a job, its input and the buffer lent to it; then the answer number, the second number and what
 -- the buffer holds after the call
@@ -1102,7 +1125,35 @@ fnc2Lists =
     ((103 ∷ 97 ∷ 98 ∷ 65 ∷ []) spells "ÀźŽ\u{1}" scans "a" draws "D09EA3D14B0CA18EB") ∷
     ((104 ∷ 97 ∷ 98 ∷ 65 ∷ 97 ∷ []) spells "ƁźŽaź" scans "\u{1}" draws "D21EA3D14B0F51BBB1D6") ∷ []
 
+-- ---- l. two blocks exchanged
+
+-- Request 9 of document 02: rows with two data blocks exchanged, the crate's patterns put in their
+-- order by hand, the check left as drawn. Two that are alike leave the row as it was.
+unfoldable pub exchangedRows : List Exchange
+exchangedRows =
+    ((105 ∷ 12 ∷ 34 ∷ []) exchanging 1 with 2 draws cellsOf "11010011100 10001011000 10110011100 10010011110 1100011101011") ∷
+    ((104 ∷ 33 ∷ 41 ∷ 45 ∷ []) exchanging 1 with 2 draws cellsOf "11010010000 11000100010 10100011000 10111011000 10111011000 1100011101011") ∷
+    ((104 ∷ 33 ∷ 41 ∷ 45 ∷ []) exchanging 2 with 3 draws cellsOf "11010010000 10100011000 10111011000 11000100010 10111011000 1100011101011") ∷
+    ((104 ∷ 33 ∷ 41 ∷ 45 ∷ []) exchanging 1 with 3 draws cellsOf "11010010000 10111011000 11000100010 10100011000 10111011000 1100011101011") ∷
+    ((104 ∷ 33 ∷ 33 ∷ []) exchanging 1 with 2 draws cellsOf "11010010000 10100011000 10100011000 10111101110 1100011101011") ∷
+    ((103 ∷ 0 ∷ 102 ∷ []) exchanging 1 with 2 draws cellsOf "11010000100 11110101110 11011001100 11101011110 1100011101011") ∷ []
+
+-- By hand from request 9: refusal 14 with the check of the exchanged list, whatever the length of
+-- the buffer; and an acceptance where the two places are 103 or 206 apart, or refusal 5 if there is
+-- no room. The sum moves by the difference of the two numbers times the distance of their places.
+unfoldable pub exchangings : List Between
+exchangings =
+    ((105 ∷ 12 ∷ 34 ∷ []) between 1 and 2 gives refuse 14 60 short refuse 14 60) ∷
+    ((104 ∷ 33 ∷ 41 ∷ 45 ∷ []) between 1 and 2 gives refuse 14 37 short refuse 14 37) ∷
+    ((104 ∷ 33 ∷ 41 ∷ 45 ∷ []) between 2 and 3 gives refuse 14 41 short refuse 14 41) ∷
+    ((104 ∷ 33 ∷ 41 ∷ 45 ∷ []) between 1 and 3 gives refuse 14 21 short refuse 14 21) ∷
+    ((103 ∷ 0 ∷ 102 ∷ []) between 1 and 2 gives refuse 14 102 short refuse 14 102) ∷
+    ((103 ∷ 102 ∷ 0 ∷ []) between 1 and 2 gives refuse 14 101 short refuse 14 101) ∷
+    ((104 ∷ 1 ∷ replicate 102 33 ++ (2 ∷ [])) between 103 and 104 gives refuse 14 2 short refuse 14 2) ∷
+    ((104 ∷ 1 ∷ replicate 102 33 ++ (2 ∷ [])) between 1 and 104 gives accept 105 (104 ∷ 2 ∷ replicate 102 33 ++ (1 ∷ [])) short refuse 5 105) ∷
+    ((104 ∷ 1 ∷ replicate 205 33 ++ (2 ∷ [])) between 1 and 207 gives accept 208 (104 ∷ 2 ∷ replicate 205 33 ++ (1 ∷ [])) short refuse 5 208) ∷ []
+
 -- a proof by computation names this on its `unfolding` line: it opens every definition above
 unfoldable pub examples-computes : Unit {0}
-unfolding digit16 digits16 cellsOf fours rowOf accepted pairs16 bytesOf elevens joined times shiftThenPlain asked given parsedAs printedAs answerOf ofCrate retired tried passesAt retiresAt those passing retires kept threeJobs threeAnswers settles settled ruled twice flips thrice gave called left unstarred unstarredRecords longest order published publishedRows crateChars crateStop crateWidths crateBars everyNumber everySwitch everyFunction everyPair foreignDigits firstPoints documented randomly randomlyWrong checksOn withFNC2 sweeps readBack readLengths readBlocks readWorn readStops readChecks readLong lists badLists drawShort spellShort scanShort shiftEach shiftBefore shifting packings unpackings settling buffers redrawings flippings fnc2Refused fnc2Before fnc2Beside fnc2Swept fnc2Rows fnc2Lists settle-computes chars-computes rules-computes damage-computes
+unfolding digit16 digits16 cellsOf fours rowOf accepted pairs16 bytesOf elevens joined times shiftThenPlain asked given parsedAs printedAs answerOf ofCrate retired tried passesAt retiresAt those passing retires kept threeJobs threeAnswers settles settled ruled twice flips thrice trades traded exchanges threefold gave called left unstarred unstarredRecords longest order published publishedRows crateChars crateStop crateWidths crateBars everyNumber everySwitch everyFunction everyPair foreignDigits firstPoints documented randomly randomlyWrong checksOn withFNC2 sweeps readBack readLengths readBlocks readWorn readStops readChecks readLong lists badLists drawShort spellShort scanShort shiftEach shiftBefore shifting packings unpackings settling buffers redrawings flippings fnc2Refused fnc2Before fnc2Beside fnc2Swept fnc2Rows fnc2Lists exchangedRows exchangings settle-computes chars-computes rules-computes damage-computes
 examples-computes = tt

@@ -17,6 +17,7 @@ pub mod Primes
 pub mod Damaged
 pub mod Exactly
 pub mod Flipped
+pub mod Exchanged
 pub mod Bytes
 pub mod Records
 pub mod Results

@@ -1,4 +1,5 @@
--- Sums modulo 103, which is prime: when they agree, though one number in them is another.
+-- Sums modulo 103, which is prime: when they agree, though one number in them is another, or two
+-- have changed places.
 -- Assumes nothing.
 use mathlib.Core.Path.{_≡_, refl, sym, ap, _∙_}
 use mathlib.Core.Logic.{_≢_}
@@ -6,12 +7,14 @@ use mathlib.Core.Bool.{Bool, true, false}
 use mathlib.Core.List.{List, [], _∷_}
 use Prim.Native.Nat.{ℕ, zero, suc, _+_, _-_, _*_, _/_, _%_, _<_, _≤_}
 use native.Mathlib.Omega.{arith}
-use native.Mathlib.Nat.{div-add-mod, add-sub-of-le}
+use native.Mathlib.Nat.{div-add-mod, add-sub-of-le, add-mul}
 use native.Mathlib.Decide.{decLt}
 use lib.Dec.{ltb, eqb, T}
-use lib.ListN.{length, getD, set}
+use lib.ListN.{length, getD, set, length-set}
+use lib.Seq.{getD-set-other}
 use borrow.Author.Tests.{ltb-true, eqb-true, eqb-false, eq-eqb, ne-eqb}
 use Rattle.paper.specs.Iso15417.{weighed, check}
+use Rattle.paper.specs.Damage.{exchangedList}
 use Rattle.helpers.proofs.Answering.{truth}
 use Rattle.helpers.proofs.Below.{below, from}
 
@@ -48,8 +51,9 @@ differ w a b x y n ab ba z e =
     ]
 
 -- Two sums, alike but for a number of weight w, which is a in the one and b in the other: they
--- agree modulo 103 exactly if w is a multiple of it.
-pub sums-agree : (w a b x y : ℕ) → a ≢ b → a ≤ b + 102 → b ≤ a + 102 → y + w * a ≡ x + w * b → eqb (x % 103) (y % 103) ≡ eqb (w % 103) 0
+-- agree modulo 103 exactly if w is a multiple of it. The same holds of two numbers that change
+-- places, w being how far apart they stand.
+sums-agree : (w a b x y : ℕ) → a ≢ b → a ≤ b + 102 → b ≤ a + 102 → y + w * a ≡ x + w * b → eqb (x % 103) (y % 103) ≡ eqb (w % 103) 0
 sums-agree w a b x y n ab ba e = weight-case (eqb (w % 103) 0) refl
   where
     weight-case : (t : Bool) → eqb (w % 103) 0 ≡ t → eqb (x % 103) (y % 103) ≡ t
@@ -89,3 +93,28 @@ pub check-set : (s : List ℕ) (i m : ℕ) → i < length s → m ≢ getD s i 0
     → eqb (check s) (check (set s i m)) ≡ eqb (weight i % 103) 0
 check-set s i m l n low high =
     rw (check-sum s, check-sum (set s i m)) (sums-agree (weight i) (getD s i 0) m (sum s) (sum (set s i m)) (omega arith) low high (sum-set s i m l))
+
+-- ---- two numbers of the list changing places
+
+weight-data : (i : ℕ) → 1 ≤ i → weight i ≡ i
+weight-data zero l = absurd (omega arith)
+weight-data (suc i) l = refl
+
+sum-exchanged : (s : List ℕ) (i j : ℕ) → 1 ≤ i → i < j → j < length s
+    → sum (exchangedList i j s) + (j - i) * getD s j 0 ≡ sum s + (j - i) * getD s i 0
+unfolding exchangedList
+sum-exchanged s i j low order high =
+    let a : ℕ = getD s i 0 in
+    let b : ℕ = getD s j 0 in
+    let one = rw (weight-data j (omega arith)) at (sum-set s j a high) in
+    let kept : getD (set s j a) i 0 ≡ a = getD-set-other s j i a 0 (omega arith) in
+    let two = rw (weight-data i low, kept) at (sum-set (set s j a) i b (omega (arith, length-set s j a))) in
+    let apart : (k : ℕ) → j * k ≡ i * k + (j - i) * k = λ k. rw (← add-mul i (j - i) k, add-sub-of-le {n = j} {m = i} (omega arith)) in
+    omega (arith, one, two, apart a, apart b)
+
+-- the check stays the same exactly where they stand a multiple of 103 apart
+pub check-exchanged : (s : List ℕ) (i j : ℕ) → 1 ≤ i → i < j → j < length s → getD s i 0 ≢ getD s j 0 → getD s i 0 ≤ 102 → getD s j 0 ≤ 102
+    → eqb (check s) (check (exchangedList i j s)) ≡ eqb ((j - i) % 103) 0
+check-exchanged s i j low order high n a b =
+    rw (check-sum s, check-sum (exchangedList i j s))
+    (sums-agree (j - i) (getD s j 0) (getD s i 0) (sum s) (sum (exchangedList i j s)) (omega arith) (omega arith) (omega arith) (sum-exchanged s i j low order high))

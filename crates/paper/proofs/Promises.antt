@@ -15,6 +15,7 @@ use Rattle.paper.proofs.Exactly.{read-exactly}
 use Rattle.paper.proofs.Damaged.{replaced, replaced-accepted}
 use Rattle.paper.proofs.Wrong.{read-worn, read-unknown}
 use Rattle.paper.proofs.Flipped.{flipped-exactly, flipped-refused}
+use Rattle.paper.proofs.Exchanged.{exchanged-exactly, neighbours-refused, exchanged-alike}
 use Rattle.paper.proofs.Records.{unpack-size, unpack-of-pack, pack-of-unpack}
 
 pub promises : Promises
@@ -71,6 +72,9 @@ promises = record {
   read-unknown = read-unknown;
   flipped-exactly = flipped-exactly;
   flipped-refused = flipped-refused;
+  exchanged-exactly = exchanged-exactly;
+  neighbours-refused = neighbours-refused;
+  exchanged-alike = exchanged-alike;
   spell-encodes = spell-encodes;
   spell-only = spell-only;
   spell-exactly = spell-exactly;

@@ -13,6 +13,7 @@ use Rattle.helpers.specs.Answers.{if_then_else_, Each, Answer, accept, passes, 
 use Rattle.paper.proofs.Computes.{iso15417-computes, jobs-computes}
 use Rattle.paper.specs.Iso15417.{pattern, stop, Look, is, worn, unknown, found, check, cells, row}
 use Rattle.paper.specs.Jobs.{most, SymbolList, StartThenData, rowLength, symbolCount, possibleRow, isCell, isData, Blocks, wrongBlock, numbers, ofRow, fitsAt, withNumber, block, blocksFrom, looked, lastOf, wanted, read, draw}
+use Rattle.paper.specs.Damage.{acceptedIf}
 use Rattle.helpers.proofs.Answering.{then-accept, ask-passes, passed, into-accept, into-room, each-append, refuse-not-accept, accept-number, accept-output}
 use Rattle.paper.proofs.Table.{found-pattern, found-is, pattern-cells}
 use Rattle.paper.proofs.Lists.{start-bounds, bounds-start, form-length, symbol-list, list-accepts, cells-tested, cells-pass}
@@ -131,7 +132,7 @@ read-cells room u n a l low high =
     read-clean room (cells u ++ stop) n long low high clean ∙ rw (← l, blocks-cells 0 u stop a)
 
 -- where all of them may stand, the check is left to ask
-pub read-fits : (room : ℕ) (u : List ℕ) (n : ℕ) → Fits 0 u → length u ≡ n + 1 → 1 ≤ n → n ≤ 255
+read-fits : (room : ℕ) (u : List ℕ) (n : ℕ) → Fits 0 u → length u ≡ n + 1 → 1 ≤ n → n ≤ 255
     → read room (cells u ++ stop) ≡ into room (ask (eqb (getD u n 0) (check (take n u))) 14 (check (take n u)) then accept n (take n u))
 unfolding looked lastOf _then_
 read-fits room u n f l low high =
@@ -140,11 +141,19 @@ read-fits room u n f l low high =
     let long : length (cells u) ≡ at = omega (arith, length-append (cells u) stop, length-stop) in
     read-cells room u n a l low high ∙ rw (sound-fits 0 u f, drop-at (cells u) stop at long, stop-passes at)
 
+-- numbers that may stand as those of a list and a check: the list, if the check is its own
+pub read-list : (room : ℕ) (s : List ℕ) (c : ℕ) → Fits 0 (s ++ (c ∷ [])) → 1 ≤ length s → length s ≤ 255
+    → read room (cells (s ++ (c ∷ [])) ++ stop) ≡ into room (acceptedIf (eqb c (check s)) s)
+unfolding acceptedIf
+read-list room s c f low high =
+    read-fits room (s ++ (c ∷ [])) (length s) f (length-append s (c ∷ [])) low high
+    ∙ rw (take-at s (c ∷ []) (length s) refl, getD-at s c [] 0 (length s) refl)
+
 pub read-row : (room : ℕ) (s : List ℕ) → SymbolList s → length s ≤ room → read room (row s) ≡ accept (length s) s
-unfolding row most ask _then_
+unfolding row most acceptedIf ask _then_
 read-row room s a h =
-    read-fits room (s ++ (check s ∷ [])) (length s) (row-fits s a) (length-append s (check s ∷ [])) (form-length s (a .form)) (a .size)
-    ∙ rw (take-at s (check s ∷ []) (length s) refl, getD-at s (check s) [] 0 (length s) refl, eq-eqb (check s) (check s) refl) (into-room room (length s) s h)
+    read-list room s (check s) (row-fits s a) (form-length s (a .form)) (a .size)
+    ∙ rw (eq-eqb (check s) (check s) refl) (into-room room (length s) s h)
 
 -- ---- what read accepts
 

@@ -15,6 +15,7 @@ use Rattle.helpers.proofs.Answering.{refuse-not-accept}
 use Rattle.helpers.proofs.Owed.{TestBy, by-ask, by-every}
 use Rattle.paper.specs.Iso15417.{Look, is, worn, unknown, found, check, stop}
 use Rattle.paper.specs.Jobs.{isCell, possibleRow, symbolCount, ofRow, fitsAt, Blocks, wrongBlock, numbers, withNumber, block, blocksFrom, looked, lastOf, wanted, read}
+use Rattle.paper.specs.Damage.{blockAt}
 use Rattle.paper.proofs.Reading.{judged}
 use Rattle.paper.proofs.Results.{by-wanted}
 
@@ -40,8 +41,8 @@ here-or-after worn b rest k c other e = inl (cc, cc)
 here-or-after unknown b rest k c other e = inl (cc, cc)
 
 -- the refused block stands i blocks after the first
-wrong-at : (n b : ℕ) (cs : List ℕ) (k c : ℕ) → k ≢ 13 → blocksFrom n b cs ≡ wrongBlock k c → (i : ℕ) × (c ≡ b + i) × (refusedBy (found (take 11 (drop (11 * i) cs))) ≡ k)
-unfolding blocksFrom
+wrong-at : (n b : ℕ) (cs : List ℕ) (k c : ℕ) → k ≢ 13 → blocksFrom n b cs ≡ wrongBlock k c → (i : ℕ) × (c ≡ b + i) × (refusedBy (found (blockAt i cs)) ≡ k)
+unfolding blocksFrom blockAt
 wrong-at zero b cs k c other e = absurd (let z : _≡_ {A = ℕ} 0 1 = cc in omega arith)
 wrong-at (suc n) b cs k c other e = elim (here-or-after (found (take 11 cs)) b (blocksFrom n (suc b) (drop 11 cs)) k c other e) [
   | inl h ↦ (0, h .1 ∙ sym (add-zero b), h .0)
@@ -83,7 +84,7 @@ looked-wrong (numbers ms) n cs k b other e =
     refuse-not-accept (sym (past 14 k (ask (eqb (getD ms n 0) (check (take n ms))) 14 (check (take n ms))) _ (by-ask (14 ∷ []) _ 14 _ (inl refl)) (other .3) checks))
 
 -- a refusal by 12 or 16 is that of the block which it names
-refused-block : (room : ℕ) (cs : List ℕ) (k b : ℕ) → Others k → k ≢ 13 → read room cs ≡ refuse k b → refusedBy (found (take 11 (drop (11 * b) cs))) ≡ k
+refused-block : (room : ℕ) (cs : List ℕ) (k b : ℕ) → Others k → k ≢ 13 → read room cs ≡ refuse k b → refusedBy (found (blockAt b cs)) ≡ k
 unfolding read ofRow
 refused-block room cs k b other place e =
     let n : ℕ = symbolCount (length cs) in
@@ -105,8 +106,8 @@ is-unknown (is m) e = absurd (omega arith)
 is-unknown worn e = absurd (omega arith)
 is-unknown unknown e = refl
 
-pub read-worn : (room : ℕ) (cs : List ℕ) (b : ℕ) → read room cs ≡ refuse 16 b → found (take 11 (drop (11 * b) cs)) ≡ worn
+pub read-worn : (room : ℕ) (cs : List ℕ) (b : ℕ) → read room cs ≡ refuse 16 b → found (blockAt b cs) ≡ worn
 read-worn room cs b e = is-worn _ (refused-block room cs 16 b (omega arith) (omega arith) e)
 
-pub read-unknown : (room : ℕ) (cs : List ℕ) (b : ℕ) → read room cs ≡ refuse 12 b → found (take 11 (drop (11 * b) cs)) ≡ unknown
+pub read-unknown : (room : ℕ) (cs : List ℕ) (b : ℕ) → read room cs ≡ refuse 12 b → found (blockAt b cs) ≡ unknown
 read-unknown room cs b e = is-unknown _ (refused-block room cs 12 b (omega arith) (omega arith) e)

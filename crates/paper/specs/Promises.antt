@@ -1,20 +1,20 @@
 -- All that is promised of Code 128, in one record; `promises` of proofs/Promises.antt is its proof.
 -- Assumes nothing.
-use Rattle.helpers.specs.Prelude.{ℕ, _+_, _*_, _/_, _%_, _<_, _≤_, _≡_, _↔_, _≢_, _⊎_, false, some, List, [], _∷_, _++_, length, getD, take, drop}
+use Rattle.helpers.specs.Prelude.{ℕ, _+_, _*_, _/_, _%_, _<_, _≤_, _≡_, _↔_, _≢_, _⊎_, false, some, List, [], _∷_, _++_, length, getD, take}
 use Rattle.helpers.specs.Answers.{Each, refuse, accept, Accepted, into}
 use Rattle.helpers.specs.Owes.{Owes}
-use Rattle.paper.specs.Iso15417.{points, Set, before, A, B, C, is, worn, unknown, barCells, ascii, SHIFT, cells, count, row, pattern, found, column, startOf, digits, other, scanned}
+use Rattle.paper.specs.Iso15417.{points, Set, before, A, B, C, is, worn, unknown, barCells, ascii, SHIFT, cells, count, check, row, pattern, found, column, startOf, digits, other, scanned}
 use Rattle.paper.specs.Crate.{À, Ɓ, Ć, Ź, ź, Ż, ż, Ž, ÷, stops, symbols, parse, letters, spans, numberIn, pointIn}
 use Rattle.paper.specs.Settle.{settle, inside, occurrences, withoutŹ}
 use Rattle.paper.specs.Chars.{chars, entry}
 use Rattle.paper.specs.Rules.{PatternRule, NoPattern, spot, differences, message, writes, sends, switches, shifts}
-use Rattle.paper.specs.Damage.{blocksOf, redrawn, verdict, flipped, flippedVerdict}
+use Rattle.paper.specs.Damage.{blocksOf, blockAt, redrawn, verdict, flipped, flippedVerdict, exchanged, exchangedList, exchangedVerdict}
 use Rattle.paper.specs.Jobs.{SymbolList, most, encodeWithFNC2, encode, draw, read, spell, scan, pack, unpack}
 use Rattle.paper.specs.Shift.{unshifted, scanUnshifted, setAfter, AOrB, hasShift, NoTextFirst}
 use Rattle.paper.specs.Labels.{answered, expected, starred, shiftAnswered, shiftExpected, shiftLabels, retiredLabels}
 
--- demands 1, 2 and 3, what document 01 says of spelling, scanning and records, and requests 1, 3 and
--- 12 of document 02
+-- demands 1, 2 and 3, what document 01 says of spelling, scanning and records, and requests 1, 3, 9
+-- and 12 of document 02
 pub record Promises : Type 0 where
   -- ---- the tables
   -- The flat table has 106 entries of eleven cells: the standard's widths, drawn in turn.
@@ -116,13 +116,25 @@ pub record Promises : Type 0 where
   pub replaced-accepted : (room : ℕ) (s : List ℕ) → SymbolList s → length s ≤ room → (i m : ℕ) → i ≤ length s → m < 106 → m ≢ getD (blocksOf s) i 0
       → Accepted (read room (redrawn i m (row s))) ↔ (((i ≡ 103) ⊎ (i ≡ 206)) × (i < length s) × (m ≤ 102))
   -- Request 3: read refuses a block by 16 only if it is worn, and by 12 only if it is unknown.
-  pub read-worn : (room : ℕ) (cs : List ℕ) (b : ℕ) → read room cs ≡ refuse 16 b → found (take 11 (drop (11 * b) cs)) ≡ worn
-  pub read-unknown : (room : ℕ) (cs : List ℕ) (b : ℕ) → read room cs ≡ refuse 12 b → found (take 11 (drop (11 * b) cs)) ≡ unknown
+  pub read-worn : (room : ℕ) (cs : List ℕ) (b : ℕ) → read room cs ≡ refuse 16 b → found (blockAt b cs) ≡ worn
+  pub read-unknown : (room : ℕ) (cs : List ℕ) (b : ℕ) → read room cs ≡ refuse 12 b → found (blockAt b cs) ≡ unknown
   -- Request 3: one cell of an accepted row is flipped. The answer at every place, into any room;
   pub flipped-exactly : (room : ℕ) (s : List ℕ) → SymbolList s → (i : ℕ) → i < length (row s) → read room (flipped i (row s)) ≡ flippedVerdict s i
   -- so an accepted row with any one cell flipped is refused.
   pub flipped-refused : (room room′ : ℕ) (r : List ℕ) (n : ℕ) (s : List ℕ) → read room r ≡ accept n s → (i : ℕ) → i < length r
       → Accepted (read room′ (flipped i r)) → ⊥
+  -- Request 9: two data blocks of an accepted row, of different numbers, change places, the check
+  -- left as drawn. The answer for every two of them, into any room;
+  pub exchanged-exactly : (room : ℕ) (s : List ℕ) → SymbolList s → (i j : ℕ) → 1 ≤ i → i < j → j < length s → getD s i 0 ≢ getD s j 0
+      → read room (exchanged i j (row s)) ≡ into room (exchangedVerdict s i j)
+  -- so an accepted row in which two different data symbols next to each other change places, check
+  -- left as drawn, is refused at every place, 103 and its multiples and the last data symbol
+  -- included: by 14, into any room, with the check that would be right;
+  pub neighbours-refused : (room room′ : ℕ) (r : List ℕ) (n : ℕ) (s : List ℕ) → read room r ≡ accept n s
+      → (i : ℕ) → 1 ≤ i → i + 1 < n → getD s i 0 ≢ getD s (i + 1) 0 → read room′ (exchanged i (i + 1) r) ≡ refuse 14 (check (exchangedList i (i + 1) s))
+  -- and where two symbols are alike nothing changes.
+  pub exchanged-alike : (s : List ℕ) → SymbolList s → (i j : ℕ) → i < length s → j < length s → getD s i 0 ≡ getD s j 0
+      → exchanged i j (row s) ≡ row s
   -- ---- spell and scan
   -- What spell writes encodes to the list's row, by document 01's encoder, and has no Ź inside a
   -- pair, and no other input does; it has at most 509 code points.

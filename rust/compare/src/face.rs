@@ -159,10 +159,16 @@ pub enum Plant {
     Without97,
     /// Scan refuses 97 in set A or B.
     Scan97,
+    /// Read takes the symbols at 103 and 104 in either order, as if both had one weight.
+    SameWeight,
+    /// Read takes a smaller number at place 1 than at place 104 for an exchange, and refuses by 14.
+    FarRefused,
+    /// Refusal 14 with the check that is drawn.
+    DrawnCheck,
 }
 
 /// Every plant and its name on the command line.
-pub const PLANTS: [(&str, Plant); 45] = [
+pub const PLANTS: [(&str, Plant); 48] = [
     ("place", Plant::Place),
     ("weight", Plant::Weight),
     ("touched", Plant::Touched),
@@ -208,6 +214,9 @@ pub const PLANTS: [(&str, Plant); 45] = [
     ("spell97", Plant::Spell97),
     ("without97", Plant::Without97),
     ("scan97", Plant::Scan97),
+    ("same-weight", Plant::SameWeight),
+    ("far-refused", Plant::FarRefused),
+    ("drawn-check", Plant::DrawnCheck),
 ];
 
 /// The plants that give refusal 19 where another answer is right.
@@ -322,6 +331,21 @@ impl Wrong {
             .map(|&(place, _)| place)
     }
 
+    /// The check that is drawn in a row whose blocks are patterns.
+    fn drawn_check(&self, row: &[u8]) -> usize {
+        let check = self.model.number(&row[row.len() - 24..row.len() - 13]);
+        check.map_or(0, usize::from)
+    }
+
+    /// Whether a good row has a smaller number at place 1 than at place 104, if the plant is
+    /// `FarRefused`.
+    fn grows_far(&self, row: &[u8]) -> bool {
+        let mut list = [0; LIMIT];
+        self.plant == Plant::FarRefused
+            && matches!(True.read(row, &mut list), (0, n) if n > 104)
+            && list[1] < list[104]
+    }
+
     /// The row with the right check.
     fn with_check(&self, row: &[u8], right: usize) -> Vec<u8> {
         let mut row = row.to_vec();
@@ -340,6 +364,21 @@ fn last_no_scalar(text: &[u32]) -> Option<usize> {
 /// The row with the right stop.
 fn with_stop(row: &[u8]) -> Vec<u8> {
     [&row[..row.len() - 13], &STOP].concat()
+}
+
+/// The answer to a row of more than 104 symbols that is good once the blocks 103 and 104 are
+/// exchanged; its list is as it is drawn.
+fn in_either_order(row: &[u8], list: &mut [u8]) -> Option<Answer> {
+    if row.len() < model::cells(105) {
+        return None;
+    }
+    let mut other = row.to_vec();
+    other[11 * 103..11 * 105].rotate_left(11);
+    let answer = True.read(&other, list);
+    if answer.0 == 0 {
+        list.swap(103, 104);
+    }
+    matches!(answer.0, 0 | 5).then_some(answer)
 }
 
 /// The place of a Ź after Ć and a digit at the beginning of the text.
@@ -491,7 +530,12 @@ impl Face for Wrong {
         if let Some(block) = self.fnc2_in_b(row) {
             return (13, block);
         }
+        if self.grows_far(row) {
+            return (14, self.drawn_check(row));
+        }
         match (self.plant, True.read(row, list)) {
+            (Plant::SameWeight, (14, right)) => in_either_order(row, list).unwrap_or((14, right)),
+            (Plant::DrawnCheck, (14, _)) => (14, self.drawn_check(row)),
             (Plant::Replaced, (14, right)) => True.read(&self.with_check(row, right), list),
             (Plant::CheckFirst, (15, place)) => match True.read(&with_stop(row), &mut []) {
                 (14, right) => (14, right),

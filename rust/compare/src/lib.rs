@@ -14,6 +14,7 @@
 pub mod ask;
 pub mod check;
 pub mod encode;
+pub mod exchanged;
 pub mod face;
 pub mod inputs;
 pub mod laws;
@@ -47,7 +48,7 @@ const fn part(name: &'static str, encode: bool, work: fn(&Run) -> run::Result<Ta
 }
 
 /// Every part, in the order of a run.
-pub const PARTS: [Part; 22] = [
+pub const PARTS: [Part; 23] = [
     part("encode-all", true, encode::all),
     part("encode-points", true, encode::points),
     part("encode-lengths", true, |run| {
@@ -71,6 +72,7 @@ pub const PARTS: [Part; 22] = [
         tally.add(&read::beside(run)?);
         Ok(tally)
     }),
+    part("read-exchanged", false, exchanged::all),
     part("read-lengths", false, read::lengths),
     part("read-random", false, read::random),
     part("rooms", false, read::rooms),

@@ -2,8 +2,9 @@
 //! the runs must find them.
 use compare::ask;
 use compare::check::{Fault, Subject, Tally};
+use compare::exchanged;
 use compare::face::{Face, Plant, True, Wrong};
-use compare::model::Model;
+use compare::model::{cells, Model};
 use compare::run::Run;
 use compare::{report, unmet, PARTS};
 use std::process::Command;
@@ -96,6 +97,49 @@ fn a_replaced_symbol_that_is_accepted() {
     assert_eq!((subject, input.len()), (Subject::Read, 35));
     let (subject, input, ..) = found(Plant::Replaced, "read-replaced");
     assert_eq!((subject, input.len()), (Subject::Read, 35));
+}
+
+/// Wrong answers to rows in which two symbols changed places are found, each with the smallest
+/// number of symbols that shows it.
+#[test]
+fn exchanged_symbols_answered_wrongly() {
+    let cases = [
+        (Plant::SameWeight, 105, "14 ", "0 105, "),
+        (Plant::FarRefused, 105, "0 105, ", "14 "),
+        (Plant::DrawnCheck, 1, "14 ", "14 "),
+        (Plant::Replaced, 1, "14 ", "5 1, "),
+    ];
+    for (plant, n, right, wrong) in cases {
+        let (subject, input, _, expected, got) = found(plant, "read-exchanged");
+        assert_eq!((subject, input.len()), (Subject::Read, cells(n)));
+        assert!(
+            expected.starts_with(right) && got.starts_with(wrong) && expected != got,
+            "{plant:?}: {expected} and {got}"
+        );
+    }
+}
+
+/// An exchange that the part must meet and does not is named.
+#[test]
+fn exchanges_that_did_not_occur() {
+    let model = Model::new(ask::patterns());
+    let run = Run {
+        face: &True,
+        model: &model,
+        seed: 1,
+        random: 0,
+        threads: 2,
+    };
+    let fault = exchanged::among(&run, 206..=206).expect_err("not all can be met");
+    assert_eq!(
+        (fault.subject, fault.expected.as_str(), fault.got.as_str()),
+        (
+            Subject::Count,
+            "neighbours at 205 and 206, neighbours at 206 and 207, 206 apart and accepted, \
+             check of 103 accepted",
+            "not met"
+        )
+    );
 }
 
 #[test]
