@@ -83,6 +83,7 @@ unfolding fitsAt isData
 data-small zero m l e = absurd (omega arith)
 data-small (suc i) m l e = leb-true m 102 e
 
+-- so numbers that may stand still may, two data among them exchanged
 fits-exchanged : (u : List ℕ) → Fits 0 u → (i j : ℕ) → 1 ≤ i → 1 ≤ j → i < length u → j < length u → Fits 0 (exchangedList i j u)
 unfolding exchangedList
 fits-exchanged u f i j di dj li lj =
@@ -91,11 +92,13 @@ fits-exchanged u f i j di dj li lj =
     set-stands (set u j (getD u i 0)) i (getD u j 0) (set-stands u j (getD u i 0) f at-j) at-i
 
 module _ (s : List ℕ) (a : SymbolList s) where
+  -- a data symbol is at most 102
   data-at : (k : ℕ) → 1 ≤ k → k < length s → getD s k 0 ≤ 102
   data-at k d l = data-small k (getD s k 0) d (symbol-stands s a k l)
 
-  fits-left : (i j : ℕ) → 1 ≤ i → 1 ≤ j → i < length s → j < length s → Fits 0 (exchangedList i j s ++ (check s ∷ []))
-  fits-left i j di dj li lj =
+  -- the numbers that are left may stand where they stand, the check with them
+  row-left : (i j : ℕ) → 1 ≤ i → 1 ≤ j → i < length s → j < length s → Fits 0 (exchangedList i j s ++ (check s ∷ []))
+  row-left i j di dj li lj =
       rw (exchanged-symbols s (check s) i j li lj) at (fits-exchanged (s ++ (check s ∷ [])) (row-fits s a) i j di dj (within s i li) (within s j lj))
 
 pub exchanged-exactly : (room : ℕ) (s : List ℕ) → SymbolList s → (i j : ℕ) → 1 ≤ i → i < j → j < length s → getD s i 0 ≢ getD s j 0
@@ -106,7 +109,7 @@ exchanged-exactly room s a i j di order lj n =
     let dj : 1 ≤ j = omega arith in
     let seen = check-exchanged s i j di order lj n (data-at s a i di li) (data-at s a j dj lj) in
     rw (exchanged-row s a i j li lj)
-    (check-left room s a (exchangedList i j s) (eqb ((j - i) % 103) 0) (length-exchanged i j s) (fits-left s a i j di dj li lj) seen)
+    (check-left room s a (exchangedList i j s) (eqb ((j - i) % 103) 0) (length-exchanged i j s) (row-left s a i j di dj li lj) seen)
 
 pub neighbours-refused : (room room′ : ℕ) (r : List ℕ) (n : ℕ) (s : List ℕ) → read room r ≡ accept n s
     → (i : ℕ) → 1 ≤ i → i + 1 < n → getD s i 0 ≢ getD s (i + 1) 0 → read room′ (exchanged i (i + 1) r) ≡ refuse 14 (check (exchangedList i (i + 1) s))
