@@ -1,22 +1,14 @@
-/* Calls the job JOB of the library TIMES times on a label of SYMBOLS symbols in the set SET, and ends.
-   tools/before/count compiles it for x86-64 without a C library, so that what is counted is the library's. */
+/* Calls the job JOB of the library TIMES times on a label of SYMBOLS symbols in the set SET, and
+   ends. tools/before/count compiles it for x86-64 without a C library, so that what is counted is
+   the library's. */
 #include "slatmonief.h"
+#include "bare.h"
 
 enum { ENCODE, DRAW, READ, SPELL, SCAN, PACK, UNPACK, CELLS = 11 * SYMBOLS + 24 };
 enum { A, B, C, mixed, A_shift, B_shift }; /* mixed has switches and no 97; with shift every fourth data number is 98 */
 static const uint8_t starts[] = {103, 104, 105, 105, 103, 104}, ends[] = {96, 64, 100, 103, 96, 96};
 static uint32_t text[600], points[600];
 static uint8_t symbols[SYMBOLS], row[CELLS], record[400], list[255], cells[2829], bytes[600];
-
-void *memcpy(void *to, const void *from, size_t n) {
-    void *begin = to;
-    __asm__ volatile("rep movsb" : "+D"(to), "+S"(from), "+c"(n) : : "memory");
-    return begin;
-}
-
-__attribute__((noreturn)) static void leave(int status) {
-    for (;;) __asm__ volatile("syscall" : : "a"(231), "D"(status) : "rcx", "r11", "memory");
-}
 
 static slatmonief_answer call(int job, size_t text_len, size_t record_len) {
     switch (job) {

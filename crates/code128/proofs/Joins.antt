@@ -13,8 +13,9 @@ use Rattle.paper.proofs.Table.{length-pattern}
 use Rattle.helpers.proofs.Writes.{Writing, writing-begin, writing-block, writing-end}
 use Rattle.helpers.proofs.Gives.{stored-at, stored-then}
 use Rattle.helpers.proofs.Part.{part-stored}
-use Rattle.code128.specs.Words.{words, quads, lowBytes, spreadOf}
-use Rattle.code128.proofs.Rows.{word-pattern}
+use Rattle.code128.specs.Words.{words}
+use Rattle.code128.specs.Quads.{quads, lowBytes, spreadOf}
+use Rattle.code128.proofs.Words.{word-pattern}
 
 -- ---- the bytes of a number
 

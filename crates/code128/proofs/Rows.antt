@@ -4,33 +4,23 @@ use Prim.Native.Nat.{ℕ, _+_, _*_, _<_}
 use mathlib.Core.Path.{_≡_, refl, sym}
 use mathlib.Core.List.{List, [], _∷_, _++_, append-nil, append-assoc}
 use native.Mathlib.Omega.{arith}
-use lib.ListN.{length, getD}
+use lib.ListN.{length}
 use lib.Seq.{sets}
 use Rattle.helpers.specs.Answers.{Each}
 use Rattle.paper.proofs.Computes.{iso15417-computes}
-use Rattle.paper.specs.Iso15417.{pattern, stop, same, check, cells, row}
-use Rattle.paper.specs.Jobs.{SymbolList, bits}
-use Rattle.helpers.proofs.Below.{at}
-use Rattle.paper.proofs.Table.{as-same, length-pattern}
+use Rattle.paper.specs.Iso15417.{pattern, stop, check, cells, row}
+use Rattle.paper.specs.Jobs.{SymbolList}
+use Rattle.paper.proofs.Table.{length-pattern}
 use Rattle.paper.proofs.Cells.{Number, cells-append, length-cells, check-small, row-numbers}
 use Rattle.helpers.specs.Contracts.{Stored}
 use Rattle.helpers.proofs.Gives.{stored-at, stored-then}
-use Rattle.code128.specs.Words.{wordsFrom, words, lowBytes, quadsFrom, quads, spreadOf}
+use Rattle.code128.specs.Quads.{quadsFrom, quads}
 
 -- ---- the constants
-
-pub length-words : length words ≡ 106
-unfolding words wordsFrom
-length-words = refl
 
 pub length-quads : length quads ≡ 16
 unfolding quads quadsFrom
 length-quads = refl
-
--- the cells of each word are its number's pattern
-pub word-pattern : (m : ℕ) → m < 106 → spreadOf (getD words m 0) ≡ pattern m
-unfolding iso15417-computes bits words wordsFrom quads quadsFrom lowBytes spreadOf
-word-pattern m h = as-same (spreadOf (getD words m 0)) (pattern m) (at (λ x. same (spreadOf (getD words x 0)) (pattern x)) 106 tt m h)
 
 -- `STOP` and `TERM`
 abbrev pub stopCells : List ℕ

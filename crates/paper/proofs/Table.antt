@@ -209,8 +209,12 @@ found-or-none b = in-or-none 0 widths b
 pub look-is : (cs : List ℕ) (m : ℕ) → (found cs ≡ is m) ↔ ((m < 106) × (cs ≡ pattern m))
 look-is cs m = ((λ e. let r = found-is cs m e in (r .1, r .0)), (λ p. rw (p .1) (found-pattern m (p .0))))
 
-found-none : (cs : List ℕ) → NoPattern cs → found cs ≡ wornOrUnknown cs
+pub found-none : (cs : List ℕ) → NoPattern cs → found cs ≡ wornOrUnknown cs
 found-none cs none = elim (found-or-none cs) [ inl p ↦ let r = found-is cs (p .0) (p .1) in absurd (none (p .0) (r .1) (r .0)) | inr e ↦ e ]
+
+-- every pattern begins with a bar: a block that does not is none of them
+pub no-bar : (cs : List ℕ) → getD cs 0 0 ≡ 0 → NoPattern cs
+no-bar cs h m l e = let bar = rw (← e) at (rule-of-pattern m l .begins) in omega (arith, h, bar)
 
 -- a block without a number is no pattern
 numberless : (cs : List ℕ) → ((m : ℕ) → found cs ≢ is m) → NoPattern cs × (found cs ≡ wornOrUnknown cs)

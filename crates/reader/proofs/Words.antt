@@ -1,22 +1,41 @@
--- The cells of a block as the bits of one word: its ones, and laws of the loop that makes it.
+-- The cells of a block as the bits of one word: its cells and ones, and laws of the loop that makes
+-- it.
 -- Assumes nothing.
-use Prim.Native.Nat.{ℕ, zero, suc, _+_, _*_, _^_, _%_, _<_, _≤_}
+use Prim.Native.Nat.{ℕ, zero, suc, _+_, _*_, _^_, _/_, _%_, _<_, _≤_}
 use mathlib.Core.Path.{_≡_, refl, sym, ap, _∙_}
 use mathlib.Core.List.{List, [], _∷_}
-use native.Mathlib.Nat.{zero-add, not-suc-le-zero, le-of-suc-le-suc, pow-suc}
+use native.Mathlib.Nat.{zero-add, not-suc-le-zero, le-of-suc-le-suc, pow-suc, div-one}
 use native.Mathlib.Numerals.{add-one}
 use native.Mathlib.Omega.{arith}
 use lib.Count.{ones, ones-cat}
 use lib.ListN.{length, getD, drop, drop-of-length-le}
-use lib.Pow.{pow-mono}
+use lib.Pow.{pow-mono, shr-shr}
 use lib.Seq.{drop-cons}
 use Rattle.helpers.specs.Answers.{Each}
 use Rattle.helpers.proofs.Answering.{each-at}
 use Rattle.paper.specs.Iso15417.{barCells, worn, unknown, wornOrUnknown}
 use Rattle.paper.proofs.Table.{odd-worn, even-unknown}
 use Rattle.paper.proofs.Bytes.{each-split}
+use Rattle.code128.specs.Words.{cellsOf}
 use Rattle.reader.specs.Parts.{wordOf}
 use Rattle.reader.proofs.Finds.{part, part-length, part-at}
+
+-- ---- the cells of a word
+
+-- what stands above the cells after it
+word-high : (w : ℕ) (cs : List ℕ) → Each (λ c. c ≤ 1) cs → wordOf w cs / 2 ^ length cs ≡ w
+unfolding wordOf
+word-high w [] a = div-one w
+word-high w (c ∷ cs) a =
+    let one = word-high (w * 2 + c) cs (a .1) in
+    rw (← add-one (length cs), ← shr-shr (wordOf (w * 2 + c) cs) (length cs) 1, one) (omega (arith, a .0))
+
+cells-after : (w : ℕ) (cs : List ℕ) → Each (λ c. c ≤ 1) cs → cellsOf (length cs) (wordOf w cs) ≡ cs
+unfolding wordOf cellsOf
+cells-after w [] a = refl
+cells-after w (c ∷ cs) a =
+    let first : (w * 2 + c) % 2 ≡ c = omega (arith, a .0) in
+    rw (word-high (w * 2 + c) cs (a .1), first, cells-after (w * 2 + c) cs (a .1)) refl
 
 -- ---- the ones of a word
 
@@ -35,13 +54,18 @@ unfolding wordOf barCells
 ones-word w [] a = omega arith
 ones-word w (c ∷ cs) a = omega (arith, ones-word (w * 2 + c) cs (a .1), ones-push w c (a .0))
 
--- the count of ones decides what a block is that is no pattern
+-- the word of a block: its cells, and the count of ones, which decides what a block is that is no
+-- pattern
 module _ (row : List ℕ) (at : ℕ) (clean : Each (λ c. c ≤ 1) row) where
+  part-clean : Each (λ c. c ≤ 1) (part row at)
+  part-clean = each-split (λ c. c ≤ 1) 11 (drop at row) (each-split (λ c. c ≤ 1) at row clean .1) .0
+
+  pub word-cells : at + 11 ≤ length row → cellsOf 11 (wordOf 0 (part row at)) ≡ part row at
+  word-cells h = rw (part-length row at h) at (cells-after 0 (part row at) part-clean)
+
   word-bars : ones (wordOf 0 (part row at)) ≡ barCells (part row at)
   unfolding ones
-  word-bars =
-      let cells : Each (λ c. c ≤ 1) (part row at) = each-split (λ c. c ≤ 1) 11 (drop at row) (each-split (λ c. c ≤ 1) at row clean .1) .0 in
-      ones-word 0 (part row at) cells ∙ zero-add (barCells (part row at))
+  word-bars = ones-word 0 (part row at) part-clean ∙ zero-add (barCells (part row at))
 
   pub word-odd : ones (wordOf 0 (part row at)) % 2 ≡ 1 → worn ≡ wornOrUnknown (part row at)
   word-odd h = sym (odd-worn (part row at) (omega (arith, word-bars)))

@@ -5,12 +5,12 @@ ghost use mathlib.Core.Path.{_≡_};
 ghost use mathlib.Core.List.{[]};
 ghost use lib.ListN.{length, take, drop};
 ghost use Rattle.helpers.specs.Answers.{Each, accept, _then_, Gave};
-ghost use Rattle.paper.specs.Chars.{chars};
 ghost use Rattle.paper.specs.Iso15417.{found};
 ghost use Rattle.paper.specs.Jobs as Paper;
 ghost use Rattle.paper.specs.Jobs.{fitsAt, blocksFrom, wanted};
 ghost use Rattle.helpers.specs.Numbers.{numberOf, secondOf};
 ghost use Rattle.helpers.specs.Contracts.{answers};
+ghost use Rattle.code128.specs.Words.{words};
 ghost use Rattle.reader.specs.Parts.{wordOf, lookOf, walkOf, stopAsked, checkAsked, Judged};
 use helpers::Answer;
 use helpers::Refusal;
@@ -39,26 +39,33 @@ fn word(row: &[u8], at: usize) -> u16
     w
 }
 
-// Looks up the eleven cells from place `at` on in the table, pattern by pattern and cell by cell.
-// If they are none of the 106, the count of ones of their word decides between worn and unknown.
-fn find(row: &[u8], at: usize, table: &[u8]) -> Found
-    requires { ⌜ (at + 11 ≤ length (now row)) × Each (λ c. c ≤ 1) (now row) × (now table ≡ chars) ⌝ }
+// Looks up the eleven cells from place `at` on in the table, pattern by pattern and cell by cell, a
+// word's cells being its bits. Every pattern begins with a bar, so the first cell is asked once,
+// before the search: where it is a space, no pattern is left to search. If the cells are none of
+// the 106, the count of ones of their word decides between worn and unknown.
+fn find(row: &[u8], at: usize, table: &[u16]) -> Found
+    requires { ⌜ (at + 11 ≤ length (now row)) × Each (λ c. c ≤ 1) (now row) × (now table ≡ words) ⌝ }
     ensures { λ r. ⌜ lookOf r ≡ found (take 11 (drop at (now (row .entry)))) ⌝ }
 {
+    let block = word(row, at);
     let mut s: usize = 0;
+    if row[at] == 0 {
+        s = 106;
+    }
     'search: loop {
         if s == 106 {
-            if u16::count_ones(word(row, at)) % 2 == 1 {
+            if u16::count_ones(block) % 2 == 1 {
                 break 'search Found::Worn;
             }
             break 'search Found::Unknown;
         }
-        let mut j: usize = 0;
+        let pattern = table[s];
+        let mut j: usize = 1;
         'cells: loop {
             if j == 11 {
                 break 'search Found::Symbol(s as u8);
             }
-            if row[at + j] != table[11 * s + j] {
+            if (block >> (10 - j)) % 2 != (pattern >> (10 - j)) % 2 {
                 break 'cells;
             }
             j += 1;
@@ -86,10 +93,10 @@ fn blocks(row: &[u8], count: usize, list: &mut [u8]) -> Answer
     requires { ⌜ (11 * count ≤ length (now row)) × Each (λ c. c ≤ 1) (now row) × (count ≤ length (now list)) ⌝ }
     ensures { λ r. ⌜ walkOf count r (now (list .exit)) ≡ blocksFrom count 0 (now (row .entry)) ⌝ }
 {
-    let table = code128::chars::table();
+    let words = code128::chars::words();
     let mut b: usize = 0;
     while b < count {
-        match find(row, 11 * b, &table) {
+        match find(row, 11 * b, &words) {
             Found::Symbol(m) => {
                 if !fits(b, m) {
                     return Answer::Refused(Refusal::Place, b);

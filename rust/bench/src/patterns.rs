@@ -33,7 +33,10 @@ const WORDS: [u16; 106] = [
 /// The thirteen cells of the stop.
 pub static STOP: [u8; 13] = [1, 1, 0, 0, 0, 1, 1, 1, 0, 1, 0, 1, 1];
 
-/// The cells of the patterns, eleven for each symbol.
+/// The words as a table, for the reader that searches.
+pub static PATTERNS: [u16; 106] = WORDS;
+
+/// The cells of the patterns, eleven for each symbol, for the writer.
 pub static CHARS: [u8; 1166] = cells();
 
 /// The symbol of each word of eleven bits, or `NONE`: for the reader with a table.

@@ -1,7 +1,7 @@
 //! The seven jobs in plain, safe Rust. They go over the same data in the same passes as the library
 //! and have all of its refusals, so that their time shows what the library's own code costs. Their
 //! public functions are never inlined, as those of the library.
-use crate::patterns::{CHARS, MOST, NONE, STOP, SYMBOLS};
+use crate::patterns::{CHARS, MOST, NONE, PATTERNS, STOP, SYMBOLS};
 
 /// The answer number, which is 0 or the number of a refusal, and the second number.
 pub type Answer = (u32, usize);
@@ -250,19 +250,31 @@ fn shape(row: &[u8]) -> Result<usize, Answer> {
     }
 }
 
-/// Finds a block pattern by pattern and cell by cell, and leaves a pattern at the first cell that
-/// differs. Of several ways to write these two loops, this one is the fastest with Rust 1.95; with
-/// iterators instead of indices it takes about 1.7 times as long.
+/// The word of a block's cells, the first cell in the top bit of eleven.
+fn word(block: &[u8]) -> u16 {
+    block
+        .iter()
+        .zip((0..11).rev())
+        .fold(0, |word, (&cell, bit)| word | u16::from(cell) << bit)
+}
+
+/// Finds a block's word pattern by pattern and cell by cell, and leaves a pattern at the first cell
+/// that differs. Of a dozen ways to write this, it is the fastest with Rust 1.95 on Arm, since the
+/// compiler joins the tests of bits; with the row's cells instead it takes about 3 times as long,
+/// and with the first cell asked before the search, as the library does, 1.04 to 1.36 times.
 fn search(block: &[u8]) -> Option<u8> {
-    'search: for s in 0..106 {
-        for j in 0..11 {
-            if block[j] != CHARS[11 * s + j] {
-                continue 'search;
+    let word = word(block);
+    'search: {
+        'patterns: for s in 0..106 {
+            for j in 0..11 {
+                if word >> (10 - j) & 1 != PATTERNS[s] >> (10 - j) & 1 {
+                    continue 'patterns;
+                }
             }
+            break 'search Some(s as u8);
         }
-        return Some(s as u8);
+        None
     }
-    None
 }
 
 /// Finds a block by its word in the table.
@@ -273,7 +285,7 @@ fn look_up(block: &[u8]) -> Option<u8> {
     Some(SYMBOLS[word]).filter(|&symbol| symbol != NONE)
 }
 
-/// Why a block that is no pattern is refused: 16 if the number of its bar cells is odd, otherwise 12.
+/// Why a block that is no pattern is refused: 16 if the number of its bar cells is odd, else 12.
 fn no_pattern(block: &[u8]) -> u32 {
     match block.iter().filter(|&&cell| cell == 1).count() % 2 {
         1 => 16,

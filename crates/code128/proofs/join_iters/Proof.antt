@@ -7,7 +7,7 @@ use borrow.Author.Needs.{needs}
 use lib.ListN.{length}
 use Rattle.helpers.proofs.Answering.{each-at}
 use Rattle.paper.proofs.Cells.{Number}
-use Rattle.code128.proofs.Rows.{length-words}
+use Rattle.code128.proofs.Words.{length-words}
 use Rattle.code128.proofs.Joins.{Joining, joining-begin, joining-turn, joining-end, part-pattern}
 use Rattle.code128.proofs.join_iters.Statement.{statement}
 use Rattle.code128.proofs.join_iters.Tie as tie

@@ -13,7 +13,8 @@ use Rattle.paper.proofs.Cells.{length-row, check-small}
 use Rattle.helpers.specs.declared.Refusal.the-variants.{Room}
 use Rattle.helpers.specs.Numbers.{refusalNumber}
 use Rattle.helpers.proofs.Gives.{refused, stored}
-use Rattle.code128.proofs.Rows.{length-words, payload-numbers, row-stored}
+use Rattle.code128.proofs.Words.{length-words}
+use Rattle.code128.proofs.Rows.{payload-numbers, row-stored}
 use Rattle.code128.proofs.Joins.{part-pattern}
 use borrow.Author.Needs.{needs}
 use Rattle.code128.proofs.write_row.Statement.{statement}

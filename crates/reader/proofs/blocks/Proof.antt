@@ -12,13 +12,13 @@ use Rattle.reader.proofs.blocks.Statement.{statement}
 use Rattle.reader.proofs.blocks.Tie as tie
 
 abbrev Inv-loop : tie.InvT-loop
-Inv-loop row count list₀ table b₀ list b = Walking count row list₀ list b
+Inv-loop row count list₀ words b₀ list b = Walking count row list₀ list b
 
 abbrev μ-loop : tie.MeasureT-loop
-μ-loop row count list₀ table b₀ list b = count - b
+μ-loop row count list₀ words b₀ list b = count - b
 
-table-requires : tie.Need-table-requires Inv-loop μ-loop
-table-requires c κs = search needs
+words-requires : tie.Need-words-requires Inv-loop μ-loop
+words-requires c κs = search needs
 
 loop-holds : tie.Need-loop-holds Inv-loop μ-loop
 loop-holds c = walk-begin
@@ -31,8 +31,8 @@ slice-aggregate-find c = search needs
 
 find-requires : tie.Need-find-requires Inv-loop μ-loop
 find-requires c κs =
-    let at-table = c .before .before .before in
-    (omega arith, at-table .before .before .before .pre .1, at-table .table .ensures)
+    let at-words = c .before .before .before in
+    (omega arith, at-words .before .before .before .pre .1, at-words .words .ensures)
 
 enum-known-m : tie.Need-enum-known-m Inv-loop μ-loop
 enum-known-m c = search needs
@@ -104,7 +104,7 @@ blocks-spec =
     (tie.spec
     Inv-loop
     μ-loop
-    table-requires
+    words-requires
     loop-holds
     mul-find
     slice-aggregate-find

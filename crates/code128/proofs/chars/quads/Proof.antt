@@ -1,7 +1,7 @@
 -- `code128::chars::quads` meets its contract: `QUADS` has the bits of the numbers below 16.
 -- Assumes nothing.
 use mathlib.Core.Path.{refl}
-use Rattle.code128.specs.Words.{quadsFrom, quads}
+use Rattle.code128.specs.Quads.{quadsFrom, quads}
 use Rattle.code128.proofs.chars.quads.Statement.{statement}
 use Rattle.code128.proofs.chars.quads.Tie as tie
 
