@@ -2,7 +2,7 @@
 # make install  installs them: make install PREFIX=/usr/local (DESTDIR is put before PREFIX)
 # make test     runs all tests
 PREFIX ?= /usr/local
-VERSION := 1.3.1
+VERSION := 1.4.0
 
 all:
 	bin/build

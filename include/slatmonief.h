@@ -4,8 +4,9 @@
  * Link with libslatmonief.a (x86-64 Linux). C99 and later, and C++.
  *
  * Words. A cell is a byte, 1 for bar and 0 for space. A symbol list is a START number (103, 104 or
- * 105) and then data numbers 0 to 102, without the check; its length n is 1 to 255. A row has
- * 11(n+1)+13 cells. Places count from 0.
+ * 105) and then data numbers 0 to 102, without the check; its length n is 1 to 4,000. A row has
+ * 11(n+1)+13 cells. Places count from 0. Before version 1.4.0 n was 1 to 255, and anything longer
+ * was refused, by 4 or 10.
  *
  * Answers. Every call returns two numbers by value:
  *   - number is 0 where the call is accepted, and else the number of the refusal;
@@ -29,12 +30,16 @@
 #include <stdint.h>
 
 /* Buffers of these lengths are never too short: for the cells of a row, the symbols of a list, the
- * code points that spell writes, the bytes that scan writes, and the bytes of a row record. */
-#define SLATMONIEF_MOST_CELLS 2829
-#define SLATMONIEF_MOST_SYMBOLS 255
-#define SLATMONIEF_MOST_CODE_POINTS 509
-#define SLATMONIEF_MOST_SCANNED 508
-#define SLATMONIEF_MOST_RECORD 356
+ * code points that spell writes, the bytes that scan writes, and the bytes of a row record. Such
+ * buffers are for static or heap memory rather than a small stack. A caller need not lend so much:
+ * a shorter buffer is refused, by 5, only where the answer does not fit, and second is then the
+ * length needed, 11(n+1)+13 cells for a row. Before version 1.4.0 the five were 2829, 255, 509, 508
+ * and 356: a buffer of that length can be too short now (5) where the input was too long then. */
+#define SLATMONIEF_MOST_CELLS 44024
+#define SLATMONIEF_MOST_SYMBOLS 4000
+#define SLATMONIEF_MOST_CODE_POINTS 7999
+#define SLATMONIEF_MOST_SCANNED 7998
+#define SLATMONIEF_MOST_RECORD 5506
 
 #ifdef __cplusplus
 extern "C" {
@@ -61,7 +66,7 @@ typedef struct {
  *      switch comes while the first digit of a pair is
  *      held, or such a digit is left over at the end
  *   19 a U+017A (FNC2) in the text                          the place of the first
- *   4  more than 255 symbols                                the symbols needed
+ *   4  more than 4,000 symbols                              the symbols needed
  *   5  row_len is too short                                 the cells needed
  */
 slatmonief_answer slatmonief_encode(const uint32_t *text, size_t text_len, uint8_t *row, size_t row_len);
@@ -70,7 +75,7 @@ slatmonief_answer slatmonief_encode(const uint32_t *text, size_t text_len, uint8
  * Accepted: second is n, and 11(n+1)+13 cells are written.
  * Refused, in this order:
  *   number, when                                            second
- *   10 no symbol, or more than 255                          symbols_len
+ *   10 no symbol, or more than 4,000                        symbols_len
  *   13 no START at place 0, or a number above 102 after it  the place of the first
  *   5  row_len is too short                                 the cells needed
  */
@@ -106,7 +111,7 @@ slatmonief_answer slatmonief_read(const uint8_t *row, size_t row_len, uint8_t *s
  * Accepted: second is the number of code points written.
  * Refused, in this order:
  *   number, when                                            second
- *   10 no symbol, or more than 255                          symbols_len
+ *   10 no symbol, or more than 4,000                        symbols_len
  *   13 no START at place 0, or a number above 102 after it  the place of the first
  *   5  text_len is too short                                the code points needed
  */
@@ -121,13 +126,21 @@ slatmonief_answer slatmonief_spell(const uint8_t *symbols, size_t symbols_len, u
  * Accepted: second is the number of bytes written.
  * Refused, in this order:
  *   number, when                                            second
- *   10 no symbol, or more than 255                          symbols_len
+ *   10 no symbol, or more than 4,000                        symbols_len
  *   13 no START at place 0, or a number above 102 after it  the place of the first
  *   5  bytes_len is too short                               the bytes needed
  */
 slatmonief_answer slatmonief_scan(const uint8_t *symbols, size_t symbols_len, uint8_t *bytes, size_t bytes_len);
 
-/* Pack: the cells of a row to a row record. The row need not be readable.
+/* Pack: the cells of a row to a row record. The row need not be readable. A record begins with its
+ * version and n:
+ *   version 1, for n up to 255:    byte 0 is 1, byte 1 is n
+ *   version 2, for n from 256 on:  byte 0 is 2, byte 1 is n / 256, byte 2 is n % 256
+ * Then come the cells, eight to a byte, the first in the top bit. Low bits of the last byte that no
+ * cell takes are spare, and 0. That makes 7 bytes at n = 1, 356 at 255, 358 at 256 and 5,506 at
+ * 4,000, and one record for each row.
+ * Up to 255 symbols the record is, byte for byte, that of the library before its version 1.4.0.
+ * Longer rows were refused by 10 there, and its unpack refuses a record of version 2 by 21, with 2.
  * Accepted: second is the number of bytes written.
  * Refused, in this order:
  *   number, when                                            second
@@ -137,14 +150,18 @@ slatmonief_answer slatmonief_scan(const uint8_t *symbols, size_t symbols_len, ui
  */
 slatmonief_answer slatmonief_pack(const uint8_t *row, size_t row_len, uint8_t *record, size_t record_len);
 
-/* Unpack: a row record to its cells.
+/* Unpack: a row record, of version 1 or 2 as pack writes it, to its cells. The count is believed
+ * only once it agrees with record_len. Before version 1.4.0 of the library 2 was refused by 21.
  * Accepted: second is the number of cells written.
  * Refused, in this order:
  *   number, when                                            second
  *   20 a record of fewer than 2 bytes                       record_len
- *   21 a version byte that is not 1                         that byte
- *   22 a count of 0, or a record_len that is not what the   the length needed, 0 for a count of 0
- *      count needs
+ *   21 a version byte that is neither 1 nor 2               that byte
+ *   22 a count that its version does not have: in version   0
+ *      1 a count of 0; in version 2 a count up to 255 or
+ *      above 4,000, or a record of 2 bytes, without byte 2
+ *   22 a record_len that is not what the version and the    the length needed
+ *      count need
  *   23 a spare bit is set                                   the place of the last byte
  *   5  row_len is too short                                 the cells needed
  */

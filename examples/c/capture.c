@@ -3,10 +3,16 @@
  * is no pattern, they also say whether to photograph the label again or to print it again.
  *
  * No memory is reserved for a size that a capture merely declares: the buffers have the size of the
- * limit and are on the stack. */
+ * limit, 4,000 symbols. They are static, since 44,024 cells are much for a stack. */
 #include <stdio.h>
 
 #include "slatmonief.h"
+
+/* Lent to every call. A program with threads has such buffers for each of them. */
+static uint8_t row[SLATMONIEF_MOST_CELLS];
+static uint8_t symbols[SLATMONIEF_MOST_SYMBOLS];
+static uint8_t bytes[SLATMONIEF_MOST_SCANNED];
+static uint8_t record[SLATMONIEF_MOST_RECORD];
 
 /* What an operator does after a refusal of read, in words; the second number is the block. */
 static const char *advice(uint32_t number)
@@ -19,12 +25,9 @@ static const char *advice(uint32_t number)
 }
 
 /* Shows what one capture gives. */
-static void show(const char *name, const uint8_t *record, size_t length)
+static void show(const char *name, const uint8_t *capture, size_t length)
 {
-    uint8_t row[SLATMONIEF_MOST_CELLS];
-    uint8_t symbols[SLATMONIEF_MOST_SYMBOLS];
-    uint8_t bytes[SLATMONIEF_MOST_SCANNED];
-    slatmonief_answer a = slatmonief_unpack(record, length, row, sizeof row);
+    slatmonief_answer a = slatmonief_unpack(capture, length, row, sizeof row);
     if (a.number != 0) {
         printf("%s: unpack refused by %u, %zu\n", name, (unsigned)a.number, a.second);
         return;
@@ -43,8 +46,6 @@ static void show(const char *name, const uint8_t *record, size_t length)
 int main(void)
 {
     const uint32_t label[] = {0x181, 'A', 'I', 'M', 0x106, '1', '2', '3', '4'};
-    uint8_t row[SLATMONIEF_MOST_CELLS];
-    uint8_t record[SLATMONIEF_MOST_RECORD];
     slatmonief_answer a = slatmonief_encode(label, sizeof label / sizeof label[0], row, sizeof row);
     a = slatmonief_pack(row, 11 * (a.second + 1) + 13, record, sizeof record);
     size_t length = a.second;
@@ -57,7 +58,7 @@ int main(void)
     show("declares none", record, length);
     record[1] = 7;
     show("cut short", record, length - 1);
-    record[0] = 2;
+    record[0] = 3;
     show("another version", record, length);
     record[0] = 1;
     record[4] ^= 0x10; /* a worn cell, in block 1: its bit is flipped */
@@ -65,5 +66,10 @@ int main(void)
     record[3] ^= 0x08; /* one more in the same block. Here no pattern is left; two flipped cells can
                           also leave the pattern of another number, and then 13 or 14 follows. */
     show("two cells of a block flipped", record, length);
+
+    /* Version 2, for labels of more than 255 symbols, has a count of two bytes. */
+    const uint8_t most[] = {2, 4000 / 256, 4000 % 256, 0xD0}, huge[] = {2, 255, 255, 0xD0};
+    show("declares 4,000 symbols", most, sizeof most);
+    show("declares 65,535 symbols", huge, sizeof huge);
     return 0;
 }

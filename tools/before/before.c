@@ -1,9 +1,12 @@
-/* Times each job of this library beside the same job of an earlier one, whose names begin with before_. The two
-   are called in turn, and the medians of the rounds are compared: a ratio above 1 is slower than before. */
+/* Times each job of this library beside the same job of an earlier one, whose names begin with
+   before_. The two are called in turn on the same labels, and the medians of the rounds are
+   compared: a ratio above 1 is slower than before. Longer labels, which the earlier library may
+   refuse, are timed with this library alone. */
 #define _POSIX_C_SOURCE 199309L
 #include "slatmonief.h"
 #include <stdio.h>
 #include <stdlib.h>
+#include <string.h>
 #include <time.h>
 
 slatmonief_answer before_slatmonief_encode(const uint32_t *, size_t, uint8_t *, size_t);
@@ -14,11 +17,20 @@ slatmonief_answer before_slatmonief_scan(const uint8_t *, size_t, uint8_t *, siz
 slatmonief_answer before_slatmonief_pack(const uint8_t *, size_t, uint8_t *, size_t);
 slatmonief_answer before_slatmonief_unpack(const uint8_t *, size_t, uint8_t *, size_t);
 
-enum { ROUNDS = 401 };
+enum { ROUNDS = 401, CELLS = SLATMONIEF_MOST_CELLS, POINTS = SLATMONIEF_MOST_CODE_POINTS };
 
-static uint32_t text[600], points[600];
-static uint8_t row[SLATMONIEF_MOST_CELLS], cells[SLATMONIEF_MOST_CELLS], symbols[256], list[256], bytes[600], record[400];
-static size_t text_len, row_len, record_len, n;
+/* A label in every form that a job takes. */
+typedef struct {
+    uint32_t *text;
+    uint8_t *symbols, *row, *record;
+    size_t n, text_len, row_len, record_len;
+} label;
+
+/* More short labels than long ones, so that the processor does not learn them by heart. */
+static label labels[256];
+static size_t count;
+static uint32_t points[POINTS];
+static uint8_t cells[CELLS];
 static volatile size_t sink;
 
 static double nanoseconds(void) {
@@ -32,15 +44,19 @@ static int by_size(const void *a, const void *b) {
     return (x > y) - (x < y);
 }
 
-/* Each job as a call of one library: WHOSE is empty or before_. */
+/* Each job as a call of one library: WHOSE is now_ or before_. */
+#define DEFINE(WHOSE, JOB, IN, LENGTH, OUT, ROOM) \
+    static slatmonief_answer WHOSE##JOB(const label *l) { \
+        return WHOSE##slatmonief_##JOB(l->IN, l->LENGTH, OUT, ROOM); \
+    }
 #define JOBS(WHOSE) \
-    static slatmonief_answer WHOSE##encode(void) { return WHOSE##slatmonief_encode(text, text_len, cells, sizeof cells); } \
-    static slatmonief_answer WHOSE##draw(void) { return WHOSE##slatmonief_draw(symbols, n, cells, sizeof cells); } \
-    static slatmonief_answer WHOSE##read(void) { return WHOSE##slatmonief_read(row, row_len, list, sizeof list); } \
-    static slatmonief_answer WHOSE##spell(void) { return WHOSE##slatmonief_spell(symbols, n, points, 600); } \
-    static slatmonief_answer WHOSE##scan(void) { return WHOSE##slatmonief_scan(symbols, n, bytes, sizeof bytes); } \
-    static slatmonief_answer WHOSE##pack(void) { return WHOSE##slatmonief_pack(row, row_len, bytes, sizeof bytes); } \
-    static slatmonief_answer WHOSE##unpack(void) { return WHOSE##slatmonief_unpack(record, record_len, cells, sizeof cells); }
+    DEFINE(WHOSE, encode, text, text_len, cells, CELLS) \
+    DEFINE(WHOSE, draw, symbols, n, cells, CELLS) \
+    DEFINE(WHOSE, read, row, row_len, cells, CELLS) \
+    DEFINE(WHOSE, spell, symbols, n, points, POINTS) \
+    DEFINE(WHOSE, scan, symbols, n, cells, CELLS) \
+    DEFINE(WHOSE, pack, row, row_len, cells, CELLS) \
+    DEFINE(WHOSE, unpack, record, record_len, cells, CELLS)
 #define now_slatmonief_encode slatmonief_encode
 #define now_slatmonief_draw slatmonief_draw
 #define now_slatmonief_read slatmonief_read
@@ -51,58 +67,126 @@ static int by_size(const void *a, const void *b) {
 JOBS(now_)
 JOBS(before_)
 
-typedef slatmonief_answer job(void);
-static const struct { const char *name; job *now, *before; } jobs[] = {
-    {"encode", now_encode, before_encode}, {"draw", now_draw, before_draw}, {"read", now_read, before_read},
-    {"spell", now_spell, before_spell}, {"scan", now_scan, before_scan}, {"pack", now_pack, before_pack},
-    {"unpack", now_unpack, before_unpack},
+typedef slatmonief_answer call(const label *);
+
+/* A job in both libraries and, where one is set, the limit of its ratio up to n = 14 and above. */
+typedef struct {
+    const char *name;
+    call *now, *before;
+    double most_short, most_long;
+} job;
+static const job jobs[] = {
+    {"encode", now_encode, before_encode, 1.15, 1.05}, {"draw", now_draw, before_draw, 0, 0},
+    {"read", now_read, before_read, 1.15, 1.05}, {"spell", now_spell, before_spell, 0, 0},
+    {"scan", now_scan, before_scan, 0, 0}, {"pack", now_pack, before_pack, 0, 0},
+    {"unpack", now_unpack, before_unpack, 0, 0},
 };
+enum { HOW_MANY = sizeof jobs / sizeof *jobs };
 
-static double timed(job *call, int calls) {
-    double began = nanoseconds();
-    for (int i = 0; i < calls; i++) sink += call().second;
-    return (nanoseconds() - began) / calls;
-}
+/* The sets: mixed has any START, switches and no 97, which encode refuses in sets A and B. */
+static const char *const sets[] = {"A", "B", "C", "mixed"};
+static const int ends[] = {96, 96, 100, 103};
+enum { MIXED = 3, SETS = 4 };
 
-/* A label of k symbols in one set, its row, symbols and record. */
-static void label(char set, size_t k) {
-    text_len = 0;
-    text[text_len++] = set == 'A' ? 0xC0 : set == 'B' ? 0x181 : 0x106;
-    srand(7);
-    for (size_t i = 1; i < k; i++) {
-        if (set != 'C') { text[text_len++] = 0x20 + (uint32_t)rand() % 64; continue; }
-        text[text_len++] = '0' + (uint32_t)rand() % 10;
-        text[text_len++] = '0' + (uint32_t)rand() % 10;
+/* Gives a label n random symbols of a set, and from these its other forms. */
+static void fill(label *l, int set, size_t n) {
+    l->n = n;
+    l->row_len = 11 * n + 24;
+    l->symbols = realloc(l->symbols, n);
+    l->text = realloc(l->text, 2 * n * sizeof *l->text);
+    l->row = realloc(l->row, l->row_len);
+    l->record = realloc(l->record, l->row_len);
+    if (!l->symbols || !l->text || !l->row || !l->record) abort();
+    l->symbols[0] = (uint8_t)(103 + (set == MIXED ? rand() % 3 : set));
+    for (size_t i = 1; i < n; i++) {
+        int number = rand() % ends[set];
+        l->symbols[i] = (uint8_t)(set == MIXED && number == 97 ? 96 : number);
     }
-    n = slatmonief_encode(text, text_len, row, sizeof row).second;
-    row_len = 11 * n + 24;
-    slatmonief_read(row, row_len, symbols, sizeof symbols);
-    record_len = slatmonief_pack(row, row_len, record, sizeof record).second;
+    if (slatmonief_draw(l->symbols, n, l->row, l->row_len).number != 0) abort();
+    l->text_len = slatmonief_spell(l->symbols, n, l->text, 2 * n).second;
+    l->record_len = slatmonief_pack(l->row, l->row_len, l->record, l->row_len).second;
 }
 
-static double ratio(size_t j, int calls) {
+static void make(int set, size_t n) {
+    srand(7);
+    count = 4096 / n < 4 ? 4 : 4096 / n > 256 ? 256 : 4096 / n;
+    for (size_t i = 0; i < count; i++) fill(&labels[i], set, n);
+}
+
+/* The nanoseconds of a call, on average over all labels. Short ones are gone over several times. */
+static double timed(call *of) {
+    size_t turns = 1 + 8 / labels[0].n;
+    double began = nanoseconds();
+    for (size_t t = 0; t < turns; t++)
+        for (size_t i = 0; i < count; i++) sink += of(&labels[i]).second;
+    return (nanoseconds() - began) / (double)(turns * count);
+}
+
+static double median(double *times) {
+    qsort(times, ROUNDS, sizeof *times, by_size);
+    return times[ROUNDS / 2];
+}
+
+static double ratio(const job *j) {
     static double now[ROUNDS], before[ROUNDS];
     for (int r = 0; r < ROUNDS; r++) {
-        if (r & 1) now[r] = timed(jobs[j].now, calls);
-        before[r] = timed(jobs[j].before, calls);
-        if (!(r & 1)) now[r] = timed(jobs[j].now, calls);
+        if (r & 1) now[r] = timed(j->now);
+        before[r] = timed(j->before);
+        if (!(r & 1)) now[r] = timed(j->now);
     }
-    qsort(now, ROUNDS, sizeof *now, by_size);
-    qsort(before, ROUNDS, sizeof *before, by_size);
-    return now[ROUNDS / 2] / before[ROUNDS / 2];
+    return median(now) / median(before);
 }
 
-int main(void) {
-    static const size_t sizes[] = {1, 14, 64, 255};
-    printf("| job | set | n = 1 | 14 | 64 | 255 |\n|---|---|---|---|---|---|\n");
-    for (size_t j = 0; j < sizeof jobs / sizeof *jobs; j++)
-        for (const char *set = "ABC"; *set; set++) {
-            printf("| %s | %c |", jobs[j].name, *set);
-            for (size_t i = 0; i < 4; i++) {
-                label(*set, sizes[i]);
-                printf(" %.2f |", ratio(j, (int)(4000 / sizes[i]) + 4));
+static double alone(const job *j) {
+    static double times[ROUNDS];
+    for (int r = 0; r < ROUNDS; r++) times[r] = timed(j->now);
+    return median(times);
+}
+
+/* The ratios of all jobs, and which limits they keep: they are set at n = 2, 14, 50 and 255. */
+static void compare(void) {
+    static const size_t sizes[] = {1, 2, 14, 50, 64, 255};
+    static char missed[HOW_MANY * SETS * 6 * 64];
+    int asked = 0, reached = 0;
+    printf("| job | set | n = 1 | 2 | 14 | 50 | 64 | 255 |\n|---|---|---|---|---|---|---|---|\n");
+    for (const job *j = jobs; j < jobs + HOW_MANY; j++)
+        for (int set = 0; set < SETS; set++) {
+            printf("| %s | %s |", j->name, sets[set]);
+            for (const size_t *n = sizes; n < sizes + 6; n++) {
+                make(set, *n);
+                double now = ratio(j), most = *n <= 14 ? j->most_short : j->most_long;
+                printf(" %.2f |", now);
+                fflush(stdout);
+                if (most == 0 || *n == 1 || *n == 64) continue;
+                asked++;
+                if (now <= most) reached++;
+                else sprintf(missed + strlen(missed), "- Not reached: %s, %s, %zu: %.3f, "
+                             "limit %.2f\n", j->name, sets[set], *n, now, most);
             }
             printf("\n");
         }
+    printf("\nLimits (encode and read at most 1.15 at n = 2 and 14, 1.05 at n = 50 and 255): "
+           "%d of %d reached.\n%s", reached, asked, missed);
+}
+
+/* The time of this library alone, on longer labels too. */
+static void lengthen(void) {
+    static const size_t sizes[] = {255, 1000, 4000};
+    printf("\nThis library alone, ns per symbol:\n\n"
+           "| job | set | n = 255 | 1,000 | 4,000 |\n|---|---|---|---|---|\n");
+    for (const job *j = jobs; j < jobs + HOW_MANY; j++)
+        for (int set = 0; set < SETS; set++) {
+            printf("| %s | %s |", j->name, sets[set]);
+            for (const size_t *n = sizes; n < sizes + 3; n++) {
+                make(set, *n);
+                printf(" %.2f |", alone(j) / (double)*n);
+            }
+            printf("\n");
+        }
+}
+
+int main(void) {
+    compare();
+    lengthen();
     return 0;
 }

@@ -1,21 +1,22 @@
-/* Calls each job of JOBS three times (a label of 255 symbols, a buffer of length 0, no input) on a
-   painted stack of 16 KiB, and prints how many bytes below the return address it touched.
-   tools/before/flash compiles it for x86-64 without a C library. All of it is in sections named
-   .own, so that every other section of the linked program is the library's; it makes its inputs
-   itself, so that only the jobs of JOBS are linked. */
+/* Calls each job of JOBS three times (a label of N symbols, a buffer of length 0, no input) on a
+   painted stack of 16 KiB, and prints how many bytes below the return address it touched; ends with
+   the status REFUSED if the label is too long for the library. tools/before/flash compiles it for
+   x86-64 without a C library. All of it is in sections named .own, so that every other section of
+   the linked program is the library's; it makes its inputs itself, so that only the jobs of JOBS
+   are linked. */
 #include "slatmonief.h"
 #pragma clang section text = ".own.text" rodata = ".own.rodata" bss = ".own.bss"
 #include "bare.h"
 
-enum { N = SLATMONIEF_MOST_SYMBOLS, CELLS = SLATMONIEF_MOST_CELLS, RECORD = SLATMONIEF_MOST_RECORD, RETURN = 8 };
+enum { CELLS = 11 * N + 24, HEAD = N <= 255 ? 2 : 3, RECORD = HEAD + (CELLS + 7) / 8, RETURN = 8 };
 static uint32_t text[N], lent[(CELLS + 3) / 4];
 static uint8_t symbols[N], row[CELLS], record[RECORD], stack[16384] __attribute__((aligned(64)));
 
 #define encode text, N, lent, CELLS
 #define draw symbols, N, lent, CELLS
 #define read row, CELLS, lent, N
-#define spell symbols, N, lent, SLATMONIEF_MOST_CODE_POINTS
-#define scan symbols, N, lent, SLATMONIEF_MOST_SCANNED
+#define spell symbols, N, lent, N
+#define scan symbols, N, lent, N
 #define pack row, CELLS, lent, RECORD
 #define unpack record, RECORD, lent, CELLS
 #define JOB(name) measure((void *)slatmonief_##name, name);
@@ -37,7 +38,7 @@ static void measure(void *job, const void *in, size_t in_len, void *out, size_t 
         uint8_t paint = i % 2 ? 0x5a : 0xa5;
         for (size_t k = 0; k < sizeof stack; k++) at[k] = paint;
         uint32_t number = call(job, in, i / 2 == 2 ? 0 : in_len, out, i / 2 == 1 ? 0 : out_len);
-        if ((number == 0) != (i / 2 == 0)) leave(1);
+        if ((number == 0) != (i / 2 == 0)) leave(i < 2 ? REFUSED : 1);
         size_t left = 0;
         while (left < sizeof stack - RETURN && at[left] == paint) left++;
         if (left == 0) leave(2);
@@ -50,7 +51,7 @@ static void put(int count, uint32_t bars) {
     while (count-- > 0) row[row_len++] = bars >> count & 1;
 }
 
-__attribute__((used)) void run(void) { /* the label: START B and 254 spaces, whose check is 1 */
+__attribute__((used)) void run(void) { /* the label: START B and spaces, whose check is 1 */
     put(11, 0x690);
     for (int i = 1; i < N; i++) put(11, 0x6cc);
     put(11, 0x66c);
@@ -59,9 +60,10 @@ __attribute__((used)) void run(void) { /* the label: START B and 254 spaces, who
         symbols[i] = i == 0 ? 104 : 0;
         text[i] = i == 0 ? 0x181 : ' ';
     }
-    record[0] = 1;
-    record[1] = N;
-    for (int i = 0; i < CELLS; i++) record[2 + i / 8] |= row[i] << (7 - i % 8);
+    record[0] = HEAD - 1;
+    if (HEAD == 3) record[1] = N / 256;
+    record[HEAD - 1] = N % 256;
+    for (int i = 0; i < CELLS; i++) record[HEAD + i / 8] |= row[i] << (7 - i % 8);
     JOBS
     char digits[8];
     int at = sizeof digits;

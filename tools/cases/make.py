@@ -3,9 +3,11 @@
     python3 tools/cases/make.py
 
 The calls are the labels of document 01, inputs on both sides of each limit, and from document 02
-the Shifts of request 1, the damaged rows of request 3 and the FNC2 of request 12. The answers come
-from ../examples/model.py, which is written from these documents (../examples/README.md says how).
-Where a document gives the answer, it is written here by hand and the model must agree.
+the Shifts of request 1, the damaged rows of request 3, the lengths above 255 and the records of
+request 4 and the FNC2 of request 12. The program's buffers have 3,072 elements, room for rows of
+277 symbols, so the limit of 4,000 shows in unpack alone. The answers come from
+../examples/model.py, which is written from these documents (../examples/README.md says how). Where
+a document gives the answer, it is written here by hand and the model must agree.
 
 A line of stdin has the letter of a job, the length of the lent buffer, and the input, all numbers
 in upper-case hex. The letters are E encode, D draw, R read, S spell, N scan, P pack and U unpack.
@@ -26,7 +28,7 @@ CODE128 = os.path.join(REPOSITORY, "rust", "barcoders", "src", "sym", "code128.r
 model.load_patterns(CODE128)
 JOBS = {"E": model.encode, "D": model.draw, "R": model.read, "S": model.spell, "N": model.scan,
         "P": model.pack, "U": model.unpack}
-MOST, FULL = 2829, 0x77
+LENT, ROOM, FULL = 3072, 2840, 0x77  # ROOM takes a row of 256 symbols
 asked, answered = [], []
 
 
@@ -55,12 +57,12 @@ def done(n):
     return ("accept", n)
 
 
-def near(job, values):
+def near(job, values, others=True):
     """Two buffers: one is an element too short, the other just long enough. If the input has at
-    most 400 elements, also a longer buffer and an empty one."""
-    need = len(JOBS[job](4000, list(values))[2])
+    most 400 elements, also a longer buffer and an empty one, unless `others` is false."""
+    need = len(JOBS[job](LENT, list(values))[2])
     rooms = {max(0, need - 1), need}
-    if len(values) <= 400:
+    if others and len(values) <= 400:
         rooms |= {need + 3, 0}
     for room in sorted(rooms):
         ask(job, room, values)
@@ -90,10 +92,10 @@ def flipped(row, *places):
 
 
 # ---- encode: the labels of document 01
-ask("E", MOST, [], refuse(2, 0))
-ask("E", MOST, P("A"), refuse(2, 0))
-ask("E", MOST, P("À"), done(1))
-ask("E", MOST, P("€"), refuse(3, 0))
+ask("E", ROOM, [], refuse(2, 0))
+ask("E", ROOM, P("A"), refuse(2, 0))
+ask("E", ROOM, P("À"), done(1))
+ask("E", ROOM, P("€"), refuse(3, 0))
 ask("E", 60, P("Ć12"), done(2))
 ask("E", 60, P("Ć1Ź2"), done(3))
 ask("E", 60, P("ĆŹ12"), done(3))
@@ -107,10 +109,10 @@ ask("E", 60, P("Ɓ÷"), done(2))
 ask("E", 60, P("Ɓ\x7f"), refuse(3, 1))
 ask("E", 60, [0x41, 0xD800], refuse(1, 1))
 ask("E", 60, [0x110000], refuse(1, 0))
-ask("E", MOST, P("Ɓ" + 254 * "A"), done(255))
-ask("E", MOST, P("Ɓ" + 255 * "A"), refuse(4, 256))
-ask("E", MOST, P("Ɓ" + 300 * "A" + "€"), refuse(3, 301))
-ask("E", MOST, P("Ć" + 254 * "37"), done(255))
+ask("E", ROOM, P("Ɓ" + 254 * "A"), done(255))
+ask("E", ROOM, P("Ɓ" + 255 * "A"), done(256))
+ask("E", ROOM, P("Ɓ" + 300 * "A" + "€"), refuse(3, 301))
+ask("E", ROOM, P("Ć" + 254 * "37"), done(255))
 ask("E", 34, P("À"), refuse(5, 35))
 ask("E", 35, P("À"), done(1))
 # inputs near them: both sides of the scalar values, of the limit and of the buffer's length, and
@@ -119,11 +121,16 @@ for c in (0xD7FF, 0xD800, 0xDFFF, 0xE000, 0x10FFFF, 0x110000, 0xFFFFFFF):
     ask("E", 60, P("Ɓ") + [c])
 ask("E", 0, [0x7F])
 ask("E", 0, [0x80])
-ask("E", MOST + 3, P("Ć" + 254 * "99"))
-ask("E", MOST - 1, P("Ć" + 254 * "99"))
-ask("E", MOST, P("Ć" + 254 * "99" + "9"))
-ask("E", MOST, P("Ć" + 255 * "99"))
-ask("E", 0, P("Ɓ" + 255 * "A"))
+ask("E", 2832, P("Ć" + 254 * "99"), done(255))
+ask("E", 2828, P("Ć" + 254 * "99"), refuse(5, 2829))
+ask("E", ROOM, P("Ć" + 254 * "99" + "9"), refuse(3, 510))
+# Request 4 of document 02: more than 255 symbols
+ask("E", ROOM + 3, P("Ć" + 255 * "99"), done(256))
+ask("E", ROOM - 1, P("Ć" + 255 * "99"), refuse(5, 2840))
+ask("E", 2851, P("Ɓ" + 256 * "A"), done(257))
+ask("E", 0, P("Ɓ" + 511 * "A"), refuse(5, 5656))
+ask("E", 0, P("Ɓ" + 512 * "A"), refuse(5, 5667))
+ask("E", 0, P("Ɓ" + 255 * "A"), refuse(5, 2840))
 ask("E", 0, P("Ɓ" + 255 * "A" + "€"))
 ask("E", 0, P("Ɓ" + 255 * "A" + "€") + [0xD800])
 for label in ("À", "Ć12", "ƁAIM", "ƁAIMĆ1234", "ÀPJJ123C", "Ć1Ź2Ɓa÷ż", "À\x00\x1f _ŻŽżŹĆ00ŹÀ"):
@@ -133,7 +140,7 @@ for label in ("À", "Ć12", "ƁAIM", "ƁAIMĆ1234", "ÀPJJ123C", "Ć1Ź2Ɓa÷ż"
 # Before it the first label was accepted into 178 cells or more, and the second into 46 or more.
 for room in (0, 177, 178, 181):
     ask("E", room, P("À\x00\x1f _ŻźŽżŹĆ00ŹÀ"), refuse(19, 6))
-for room in (0, 34, 35, 45, 46, 47, MOST):
+for room in (0, 34, 35, 45, 46, 47, ROOM):
     ask("E", room, P("Ɓź"), refuse(19, 1))
 for label, place in (("Àź", 1), ("ƁAźź", 2), ("ĆƁź", 2), ("ĆÀź", 2), ("Ć97Ɓź", 4), ("Ć1Ź2Àź", 5),
                      ("ƁźĆ12", 1), ("ƁŽź", 2), ("Ɓ÷÷ź", 3), ("ÀƁźÀź", 2)):
@@ -145,8 +152,8 @@ ask("E", 0, P("Ɓź€"), refuse(3, 2))
 ask("E", 60, P("Ɓź") + [0xD800], refuse(1, 2))
 ask("E", 0, P("Ɓź€") + [0x110000], refuse(1, 3))
 # more than 255 symbols, and then 3 all the same
-ask("E", MOST, P("Ɓ" + 255 * "A" + "ź"), refuse(19, 256))
-ask("E", MOST, P("Ɓź" + 254 * "A" + "€"), refuse(3, 256))
+ask("E", ROOM, P("Ɓ" + 255 * "A" + "ź"), refuse(19, 256))
+ask("E", ROOM, P("Ɓź" + 254 * "A" + "€"), refuse(3, 256))
 # still accepted: the code points beside ź, the check 97, the pair 97
 for label, n in (("ƁŻ", 2), ("ƁŹ", 2), ("Ć97", 2), ("ÀĆ97ƁŻ", 5)):
     ask("E", 80, P(label), done(n))
@@ -157,16 +164,18 @@ LISTS = [
     [105, 99, 0, 100, 95, 101, 33], [104, 33, 41, 45, 99, 12, 34],
     [103, 96, 97, 98, 101, 102, 100, 96, 97, 98, 100, 102, 99, 98, 97, 96, 102, 101, 0],
 ]
-LONG = [104] + 254 * [33]
+LONG = [104] + 255 * [33]
 PAIRS = [105] + 254 * [99]
 for job in "DSN":
-    for symbols in LISTS + [LONG, PAIRS]:
+    for symbols in LISTS + [LONG]:
         near(job, symbols)
-    for bad in ([], LONG + [0], LONG + [200], [102], [106], [255], [103, 103], [105, 1, 2, 103],
-                [104, 102, 255], [0] + 256 * [255]):
+    near(job, PAIRS, others=False)
+    for bad in ([], [102], [106], [255], [103, 103], [105, 1, 2, 103], [104, 102, 255]):
         ask(job, 0, bad)
-        if bad != LONG + [200]:  # left out, to keep stdin below its limit
-            ask(job, 40, bad)
+        ask(job, 40, bad)
+    # above 255 symbols
+    ask(job, 40, LONG + [200], refuse(13, 256))
+    ask(job, 0, [0] + 256 * [255], refuse(13, 0))
 
 # Request 12 of document 02: 97 is still drawn, spelled and scanned, as FNC2 in sets A and B and as
 # the pair in set C; the rows are read further down
@@ -195,8 +204,9 @@ for symbols, sent in SHIFTED:
         ask("N", size - 1, symbols, refuse(5, size))
 
 # ---- read
-for symbols in LISTS + [LONG, PAIRS]:
+for symbols in LISTS + [LONG]:
     near("R", model.cells_of(symbols))
+ask("R", 255, model.cells_of(PAIRS), done(255))
 for symbols in WITH_97:
     row, n = model.cells_of(symbols), len(symbols)
     ask("R", n - 1, row, refuse(5, n))
@@ -214,10 +224,10 @@ for block, number in ((0, 33), (0, 103), (0, 105), (1, 104), (2, 34), (3, 102), 
     ask("R", 10, replaced(ROW, block, number))
 ask("R", 0, flipped(ROW, 45, END - 1), refuse(16, 4))
 ask("R", 0, changed(replaced(ROW, 4, 44), END - 1, 0))
-for length in (0, 1, 24, 34, 36, 45, 2830):
-    ask("R", 5, length * [1])
-for blind in (103, 206):
-    ask("R", 255, replaced(model.cells_of(LONG), blind, 7))
+for length in (0, 1, 24, 34, 36, 45, 2841):
+    ask("R", 5, length * [1], refuse(10, length))
+for symbols, blind in ((LONG[:104], 103), (LONG, 206)):
+    ask("R", 256, replaced(model.cells_of(symbols), blind, 7), done(len(symbols)))
 # Request 3 of document 02: 16 for a block that is no pattern and has an odd number of bar cells,
 # and 12 for an even number. One cell flipped in START, data and check, into no element, into three
 # and into the four that the row needs; and in the stop.
@@ -248,12 +258,16 @@ ask("R", 104, flipped(model.cells_of(LONG[:104]), 1133), refuse(16, 103))
 # ---- the row record
 for symbols in LISTS[:4] + [LONG]:
     near("P", model.cells_of(symbols))
-    near("U", model.pack(4000, model.cells_of(symbols))[2])
+    near("U", model.pack(LENT, model.cells_of(symbols))[2])
+assert model.pack(358, model.cells_of(LONG))[2][:3] == [2, 1, 0]
+ask("P", 356, model.cells_of(PAIRS), done(356))
+assert answered[-1].startswith("0 356 01ff")
+near("U", model.pack(LENT, model.cells_of(PAIRS))[2], others=False)
 for row in (35 * [0], 35 * [1], 46 * [1], changed(35 * [1], 34, 2), changed(35 * [0], 0, 9),
             34 * [0], 36 * [0], []):
     ask("P", 12, row)
 ask("U", 40, [1, 0], refuse(22, 0))
-ask("U", 40, [2, 1], refuse(21, 2))
+ask("U", 40, [2, 1], refuse(22, 0))
 ask("U", 40, [1], refuse(20, 1))
 ask("U", 40, [])
 RECORD = model.pack(40, model.cells_of([103]))[2]
@@ -265,10 +279,28 @@ for bit in range(8):
 for record in (RECORD[:6], RECORD + [0], RECORD + [255], [1, 255] + 354 * [0],
                [1, 255] + 354 * [255], [1, 255] + 353 * [0], [0, 1, 0, 0, 0, 0, 0]):
     ask("U", 40, record)
-    ask("U", MOST, record)
+    ask("U", ROOM, record)
+# Request 4 of document 02: 22 with 0 for a version 2 record under 3 bytes, of a count up to 255 or
+# above 4,000; 22 with the length needed; 21 for a version neither 1 nor 2
+for record in ([2, 0], [2, 15], [2, 255], [2, 0, 0], [2, 0, 1], [2, 0, 255], [2, 15, 161],
+               [2, 16, 0], [2, 160, 15], [2, 255, 255], [2, 0, 1, 0, 0, 0, 0, 0],
+               [2, 0, 255] + 354 * [0], [2, 0, 1] + 355 * [0]):
+    ask("U", 40, record, refuse(22, 0))
+for record, length in (([2, 1, 0], 358), ([2, 1, 1], 360), ([2, 2, 0], 710), ([2, 15, 160], 5506),
+                       ([2, 1, 0] + 354 * [0], 358), ([2, 1, 0] + 356 * [0], 358)):
+    ask("U", 40, record, refuse(22, length))
+for record in ([0, 1], [3, 1], [3, 9], [3, 1, 0], [255, 1, 0]):
+    ask("U", 40, record, refuse(21, record[0]))
+ask("U", 40, [2], refuse(20, 1))
+# 257 symbols, five spare bits
+ask("U", 2854, [2, 1, 1] + 356 * [0] + [32], done(2851))
+ask("U", 2850, [2, 1, 1] + 356 * [0] + [32], refuse(5, 2851))
+for spare in (1, 16):
+    ask("U", 40, [2, 1, 1] + 356 * [0] + [spare], refuse(23, 359))
 
-# the program reads no more than 131,072 bytes
+# the program reads no more than 131,072 bytes, and of a line its letter and 3,072 numbers
 assert sum(len(line) + 1 for line in asked) <= 131072
+assert all(len(line.split()) <= 1 + LENT and int(line.split()[1], 16) <= LENT for line in asked)
 for name, lines in (("stdin", asked), ("stdout", answered)):
     with open(os.path.join(REPOSITORY, "crates", "cases", name), "w", encoding="ascii") as f:
         f.write("\n".join(lines) + "\n")

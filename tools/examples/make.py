@@ -12,7 +12,7 @@ import subprocess
 import textwrap
 
 import model
-from model import FNC2, PATTERNS, STOP, refuse
+from model import FNC2, MOST, PATTERNS, STOP, refuse
 
 REPOSITORY = os.path.dirname(os.path.dirname(os.path.dirname(os.path.abspath(__file__))))
 RUST = os.path.join(REPOSITORY, "rust")
@@ -20,7 +20,7 @@ CODE128 = os.path.join(RUST, "barcoders", "src", "sym", "code128.rs")
 EXAMPLES = os.path.join(REPOSITORY, "crates", "paper", "proofs", "Examples.antt")
 AGAINST = os.path.join(REPOSITORY, "crates", "paper", "proofs", "Against.antt")
 model.load_patterns(CODE128)
-ROOM = 2829
+ROOM = model.MOST_CELLS   # takes any row
 SWEPT = 512
 rng = random.Random(15417)
 
@@ -60,17 +60,18 @@ def crate_places(labels):
 
 
 def crate_answers(labels):
-    """Document 01's answer to each label, before request 12. The crate has no refusal 4: the symbols
-    are counted in its row."""
-    answers = []
-    for label, got, place in zip(labels, crate_many(labels), crate_places(labels)):
+    """Document 01's answer to each label, before request 12 and with the limit of request 4. The
+    crate has no refusal 4: the symbols are counted in its row."""
+    answers, gots = [], crate_many(labels)
+    places = iter(crate_places([x for x, got in zip(labels, gots) if got == "Character"]))
+    for label, got in zip(labels, gots):
         if got == "Length":
             answer = refuse(2, 0)
         elif got == "Character":
-            answer = refuse(3, place)
+            answer = refuse(3, next(places))
         else:
             n = (len(got) - 24) // 11
-            answer = ("accept", n, [int(d) for d in got]) if n <= 255 else refuse(4, n)
+            answer = ("accept", n, [int(d) for d in got]) if n <= MOST else refuse(4, n)
         assert answer == model.encode_with_fnc2(ROOM, label), (label, answer)
         answers.append(answer)
     return answers
@@ -81,7 +82,7 @@ RETIRED = []
 
 def not_retired(labels, answers):
     """The labels with the crate's answers, but for those with ź that the crate accepts (or 4, if
-    its row has more than 255 symbols): encode refuses these by 19, and they go to RETIRED."""
+    its row has more than 4,000 symbols): encode refuses these by 19, and they go to RETIRED."""
     stay = []
     for label, answer in zip(labels, answers):
         if FNC2 in label and (answer[0] == "accept" or answer[1] == 4):
@@ -195,7 +196,7 @@ def labels_table(group, name, comment, labels):
 def points_table(group, name, comment, labels):
     """Like labels_table, with the labels written as code points in hexadecimal."""
     shown = [(" ∷ ".join(["0x%X" % c for c in l] + ["[]"]), a) for l, a in not_retired(labels, crate_answers(labels))]
-    table(group, name, "Example", comment, ["%s into 2829 gives %s" % (x, row_answer(a)) for x, a in shown])
+    table(group, name, "Example", comment, ["%s into %d gives %s" % (x, ROOM, row_answer(a)) for x, a in shown])
     states("%s-hold" % name, "map (asked encode) %s ≡ map given %s" % (name, name))
 
 
@@ -223,7 +224,7 @@ def accept(out, number=None):
 
 title("a. document 01's labels")
 
-A254 = [104] + [33] * 254
+A254, A255 = [104] + [33] * 254, [104] + [33] * 255
 C508 = [105] + [int("0123456789"[2 * i % 10:2 * i % 10 + 2]) for i in range(254)]
 assert model.parse(P("Ɓ" + "A" * 254)) == A254 and model.parse(P("Ć" + "0123456789" * 50 + "01234567")) == C508
 
@@ -232,7 +233,6 @@ hand_a = [
     ('points "Ɓ\\u{7f}"', P("Ɓ\x7f"), ROOM, refuse(3, 1)),
     ("65 ∷ 0xD800 ∷ []", [65, 0xD800], ROOM, refuse(1, 1)),
     ("0x110000 ∷ []", [0x110000], ROOM, refuse(1, 0)),
-    ("Ɓ ∷ replicate 255 65", [0x181] + [65] * 255, ROOM, refuse(4, 256)),
     ("Ɓ ∷ replicate 300 65 ++ (0x20AC ∷ [])", [0x181] + [65] * 300 + [0x20AC], ROOM, refuse(3, 301)),
     ('points "À"', P("À"), 34, refuse(5, 35)),
     ('points "À"', P("À"), 35, ("accept", 1, "11010000100110110011001100011101011")),
@@ -248,38 +248,45 @@ for shown, value, room, answer in hand_a:
     want = answer if answer[0] == "refuse" else accept([int(d) for d in answer[2]], answer[1])
     entries.append(held_to("encode", shown, value, room, want, lambda a: plain_answer(a, lambda o: 'cellsOf "%s"' % "".join(map(str, o)))))
 examples_table("a", "unstarred", "encode", """
-"Labels on each side of the line", those without a star except the two longest, and the lines of
-"The label program", all as document 01 prints them.
+"Labels on each side of the line", those without a star except those of 255 and 256 symbols, and the
+lines of "The label program", all as document 01 prints them.
 """, entries)
 
 entries = []
 for shown, value, room, answer in [
     ("1 ∷ 0 ∷ []", [1, 0], ROOM, refuse(22, 0)),
-    ("2 ∷ 1 ∷ []", [2, 1], ROOM, refuse(21, 2)),
+    ("2 ∷ 1 ∷ []", [2, 1], ROOM, refuse(22, 0)),
     ("1 ∷ []", [1], ROOM, refuse(20, 1)),
 ]:
     entries.append(held_to("unpack", shown, value, room, answer, lambda a: plain_answer(a, listed)))
-examples_table("a", "unstarredRecords", "unpack", "\"Unpack of 1, 0: 22, 0. Of 2, 1: 21, 2. Of one byte: 20, 1.\"", entries)
+examples_table("a", "unstarredRecords", "unpack", """
+"Unpack of 1, 0: 22, 0. … Of one byte: 20, 1.", and by request 4 of document 02 "unpack of 2, 1
+answers 22, 0".
+""", entries)
 
-LONG_C = model.check_of(A254), model.check_of(C508)
+LONG_C = model.check_of(A254), model.check_of(C508), model.check_of(A255)
 pairs5 = " ".join(PATTERNS[m] for m in (1, 23, 45, 67, 89))
 TABLES.append(said("""
-"Ɓ and 254 A: n = 255." and "Ć and 508 digits: n = 255.", the digits being 0 to 9 again and again.
-The rows are put together from patterns of `CHARS`, copied from the crate's source; model.py
-computed the checks, %d and %d.
-""" % LONG_C) + """unfoldable pub longest : List Example
-longest =
-    ((Ɓ ∷ replicate 254 65) into 2829 gives accept 255
+"Ɓ and 254 A: n = 255." and "Ć and 508 digits: n = 255.", the digits being 0 to 9 again and again;
+and by request 4 "Ɓ and 255 A is now accepted with n = 256". The rows are put together from patterns
+of `CHARS`, copied from the crate's source, and the crate writes the same; model.py computed the
+checks, %d, %d and %d.
+""" % LONG_C) + """unfoldable pub longRows : List Example
+longRows =
+    ((Ɓ ∷ replicate 254 65) into 44024 gives accept 255
     (cellsOf "%s" ++ (times 254 (cellsOf "%s") ++ cellsOf "%s %s"))) ∷
-    ((Ć ∷ times 50 (points "0123456789") ++ points "01234567") into 2829 gives accept 255
+    ((Ć ∷ times 50 (points "0123456789") ++ points "01234567") into 44024 gives accept 255
     (cellsOf "%s" ++ (times 50 (cellsOf "%s") ++
-    cellsOf "%s %s %s"))) ∷ []
+    cellsOf "%s %s %s"))) ∷
+    ((Ɓ ∷ replicate 255 65) into 44024 gives accept 256
+    (cellsOf "%s" ++ (times 255 (cellsOf "%s") ++ cellsOf "%s %s"))) ∷ []
 """ % (PATTERNS[104], PATTERNS[33], PATTERNS[LONG_C[0]], STOP,
-       PATTERNS[105], pairs5, " ".join(PATTERNS[m] for m in (1, 23, 45, 67)), PATTERNS[LONG_C[1]], STOP))
-COUNTS.append(("a", "longest", 2))
-assert model.encode(ROOM, P("Ɓ" + "A" * 254)) == accept(model.cells_of(A254), 255)
-assert model.encode(ROOM, P("Ć" + "0123456789" * 50 + "01234567")) == accept(model.cells_of(C508), 255)
-states("longest-hold", "map (asked encode) longest ≡ map given longest")
+       PATTERNS[105], pairs5, " ".join(PATTERNS[m] for m in (1, 23, 45, 67)), PATTERNS[LONG_C[1]], STOP,
+       PATTERNS[104], PATTERNS[33], PATTERNS[LONG_C[2]], STOP))
+COUNTS.append(("a", "longRows", 3))
+for label, symbols in (("Ɓ" + "A" * 254, A254), ("Ć" + "0123456789" * 50 + "01234567", C508), ("Ɓ" + "A" * 255, A255)):
+    assert crate_answers([P(label)]) == [model.encode(ROOM, P(label))] == [accept(model.cells_of(symbols), len(symbols))]
+states("longRows-hold", "map (asked encode) longRows ≡ map given longRows")
 
 entries = []
 for shown, value, room, answer in [
@@ -292,7 +299,7 @@ for shown, value, room, answer in [
     ("À ∷ 0xDBFF ∷ 0xDC00 ∷ []", [0xC0, 0xDBFF, 0xDC00], ROOM, refuse(1, 1)),
     ("65 ∷ 65 ∷ 65 ∷ 0xDABC ∷ []", [65, 65, 65, 0xDABC], ROOM, refuse(1, 3)),
     ("Ć ∷ 49 ∷ À ∷ 0x110000 ∷ 0xD800 ∷ []", [0x106, 49, 0xC0, 0x110000, 0xD800], 0, refuse(1, 3)),
-    ("Ɓ ∷ replicate 300 65 ++ (0xD800 ∷ [])", [0x181] + [65] * 300 + [0xD800], ROOM, refuse(1, 301)),
+    ("Ɓ ∷ replicate 4000 65 ++ (0xD800 ∷ [])", [0x181] + [65] * 4000 + [0xD800], ROOM, refuse(1, 4001)),
     # 2 before 3 and 5
     ("[]", [], 0, refuse(2, 0)),
     ("0x7F ∷ []", [0x7F], 0, refuse(2, 0)),
@@ -301,18 +308,21 @@ for shown, value, room, answer in [
     ("65 ∷ 65 ∷ []", [65, 65], 0, refuse(3, 0)),
     # 3 before 4 and 5, 4 before 5
     ('points "ÀÀ"', P("ÀÀ"), 0, refuse(3, 1)),
-    ("Ć ∷ replicate 509 48", [0x106] + [48] * 509, ROOM, refuse(3, 510)),
-    ("Ć ∷ replicate 510 48", [0x106] + [48] * 510, 0, refuse(4, 256)),
-    ("Ɓ ∷ replicate 255 65", [0x181] + [65] * 255, 0, refuse(4, 256)),
+    ("Ɓ ∷ replicate 4000 65 ++ (0x20AC ∷ [])", [0x181] + [65] * 4000 + [0x20AC], ROOM, refuse(3, 4001)),
+    ("Ć ∷ replicate 8000 48", [0x106] + [48] * 8000, 0, refuse(4, 4001)),
+    ("Ɓ ∷ replicate 4000 65", [0x181] + [65] * 4000, 0, refuse(4, 4001)),
     # 5
     ('points "À"', P("À"), 0, refuse(5, 35)),
     ('points "Ć12"', P("Ć12"), 45, refuse(5, 46)),
     ("Ɓ ∷ replicate 254 65", [0x181] + [65] * 254, 2828, refuse(5, 2829)),
+    ("Ɓ ∷ replicate 255 65", [0x181] + [65] * 255, 2839, refuse(5, 2840)),
+    ("Ć ∷ replicate 509 48", [0x106] + [48] * 509, ROOM, refuse(3, 510)),
+    ("Ć ∷ replicate 510 48", [0x106] + [48] * 510, 0, refuse(5, 2840)),
 ]:
     entries.append(held_to("encode", shown, value, room, answer, lambda a: plain_answer(a, listed)))
 examples_table("a", "order", "encode", """
-Encode's refusals, their places and their order, by hand from document 01's table and "Order". The
-values D800..DFFF and those above 10FFFF are no Rust chars, so the crate cannot be asked about
+Encode's refusals, their places and their order, by hand from document 01's table and "Order", with
+the limit of request 4. The values D800..DFFF and those above 10FFFF are no Rust chars, so the crate cannot be asked about
 refusal 1.
 """, entries)
 
@@ -503,21 +513,20 @@ labels = [l for (s, c), label in zip(wanted, labels)
           for l in ([label, with_check(s, c, fnc2=False)] if FNC2 in label else [label])]
 labels_table("c", "checksOn", "for each of the checks 0, 1, 64, 95, 96, 99, 101, 102 and 97, one label without ź of each START", labels)
 
-# the labels with ź that the crate accepts: those left out above, others, and two of more than 255 symbols
-more = ["ƁAźź", "ĆƁź", "ĆÀź", "Ć97Ɓź", "Ć97Àź", "ÀƁź", "ƁÀź", "ÀźƁź", "ƁźĆ12", "ÀĆ12Ɓź", "Ć1Ź2Ɓź", "ƁźĆ1Ź2", "ƁŽź", "ÀŹź", "Ɓ÷ź", "À\x00ź", "ƁźAź", "ÀAIMź", "ƁAIMĆ1234Ɓź"]
-long = [("Ɓ ∷ replicate 255 0x17A", [0x181] + [FNC2] * 255), ("Ɓ ∷ replicate 300 65 ++ (0x17A ∷ [])", [0x181] + [65] * 300 + [FNC2])]
-labels = [P(x) for x in more] + [l for _, l in long]
+# the labels with ź that the crate accepts: those left out above, others, and one above the limit
+more = ["ƁAźź", "ĆƁź", "ĆÀź", "Ć97Ɓź", "Ć97Àź", "ÀƁź", "ƁÀź", "ÀźƁź", "ƁźĆ12", "ÀĆ12Ɓź", "Ć1Ź2Ɓź", "ƁźĆ1Ź2", "ƁŽź", "ÀŹź", "Ɓ÷ź", "À\x00ź", "ƁźAź", "ÀAIMź", "ƁAIMĆ1234Ɓź", "ÀŻźĆ99"]
+labels = [P(x) for x in more] + [[0x181] + [65] * 4000 + [FNC2]]
 assert not_retired(labels, crate_answers(labels)) == []
-shown = {tuple(l): x for x, l in long}
+shown = {tuple(labels[-1]): "Ɓ ∷ replicate 4000 65 ++ (0x17A ∷ [])"}
 entries = []
 for label, answer in {tuple(l): a for l, a in RETIRED}.items():
     place = "".join(map(chr, label)).index("ź")
     entries.append("%s firstAt %d gives %s" % (shown.get(label) or "points " + text(label), place, row_answer(answer)))
 table("c", "withFNC2", "WithFNC2", """
-The labels with ź that the crate accepts: those left out of the tables above, and others, two of
-them with more than 255 symbols. Before request 12 of document 02 they were answered by the crate's
-row, or by 4 above 255 symbols; now they are refused 19 at their first ź, whose place was looked up
-in the text.
+The labels with ź that the crate accepts: those left out of the tables above, and others, one of
+them with more than 4,000 symbols. Before request 12 of document 02 they were answered by the
+crate's row, or by 4 above the limit; now they are refused 19 at their first ź, whose place was
+looked up in the text.
 """, entries)
 COUNTS.append(("k", "withFNC2", len(entries)))
 states("withFNC2-before", "map (answerOf encodeWithFNC2) withFNC2 ≡ map ofCrate withFNC2")
@@ -598,103 +607,105 @@ NONE = "11000111010"   # the first eleven cells of the stop
 assert NONE not in PATTERNS
 ZERO, ONES = "0" * 11, "1" * 11
 reading("readLengths", """
-Refusals 10 and 11, by hand: a row has 11(n+1)+13 cells with 1 ≤ n ≤ 255, and 11 gives the place of
-the first cell neither 0 nor 1.
+Refusals 10 and 11, by hand: a row has 11(n+1)+13 cells with 1 ≤ n ≤ 4,000, and 11 gives the place
+of the first cell neither 0 nor 1.
 """, [
-    (("[]", []), 255, refuse(10, 0)),
-    (("replicate 24 1", [1] * 24), 255, refuse(10, 24)),
-    (("replicate 34 0", [0] * 34), 255, refuse(10, 34)),
-    (("replicate 36 0", [0] * 36), 255, refuse(10, 36)),
-    (("replicate 47 1", [1] * 47), 255, refuse(10, 47)),
-    (("replicate 2829 0", [0] * 2829), 255, refuse(12, 0)),
-    (("replicate 2829 1", [1] * 2829), 255, refuse(16, 0)),
-    (("replicate 2830 1", [1] * 2830), 255, refuse(10, 2830)),
-    (("replicate 2840 1", [1] * 2840), 255, refuse(10, 2840)),
+    (("[]", []), MOST, refuse(10, 0)),
+    (("replicate 24 1", [1] * 24), MOST, refuse(10, 24)),
+    (("replicate 34 0", [0] * 34), MOST, refuse(10, 34)),
+    (("replicate 36 0", [0] * 36), MOST, refuse(10, 36)),
+    (("replicate 47 1", [1] * 47), MOST, refuse(10, 47)),
+    (("replicate 2829 0", [0] * 2829), MOST, refuse(12, 0)),
+    (("replicate 2829 1", [1] * 2829), MOST, refuse(16, 0)),
+    (("replicate 2830 1", [1] * 2830), MOST, refuse(10, 2830)),
+    (("replicate 2840 1", [1] * 2840), MOST, refuse(16, 0)),
+    (("replicate 44025 1", [1] * 44025), MOST, refuse(10, 44025)),
+    (("replicate 44035 1", [1] * 44035), MOST, refuse(10, 44035)),
     (("replicate 34 2", [2] * 34), 0, refuse(10, 34)),
     (("replicate 35 2", [2] * 35), 0, refuse(11, 0)),
-    (("replicate 35 255", [255] * 35), 255, refuse(11, 0)),
-    (("replicate 34 0 ++ (2 ∷ [])", [0] * 34 + [2]), 255, refuse(11, 34)),
-    (("replicate 2828 0 ++ (3 ∷ [])", [0] * 2828 + [3]), 255, refuse(11, 2828)),
-    (rows(103, 0)[:-1], 255, refuse(10, 34)),
-    (rows(103, 0) + "1", 255, refuse(10, 36)),
-    (rows(103, stop="") + " " + STOP, 255, refuse(10, 24)),
-    (rows(103, put(PATTERNS[0], 3, "2")), 255, refuse(11, 14)),
-    (rows(ZERO, put(PATTERNS[0], 10, "2")), 255, refuse(11, 21)),
-    (rows(ONES, put(PATTERNS[0], 10, "2")), 255, refuse(11, 21)),
-    (rows(33, 103, stop=put(STOP, 12, "2")), 255, refuse(11, 34)),
+    (("replicate 35 255", [255] * 35), MOST, refuse(11, 0)),
+    (("replicate 34 0 ++ (2 ∷ [])", [0] * 34 + [2]), MOST, refuse(11, 34)),
+    (("replicate 2828 0 ++ (3 ∷ [])", [0] * 2828 + [3]), MOST, refuse(11, 2828)),
+    (rows(103, 0)[:-1], MOST, refuse(10, 34)),
+    (rows(103, 0) + "1", MOST, refuse(10, 36)),
+    (rows(103, stop="") + " " + STOP, MOST, refuse(10, 24)),
+    (rows(103, put(PATTERNS[0], 3, "2")), MOST, refuse(11, 14)),
+    (rows(ZERO, put(PATTERNS[0], 10, "2")), MOST, refuse(11, 21)),
+    (rows(ONES, put(PATTERNS[0], 10, "2")), MOST, refuse(11, 21)),
+    (rows(33, 103, stop=put(STOP, 12, "2")), MOST, refuse(11, 34)),
     (rows(103, 0, stop=put(STOP, 0, "2")), 0, refuse(11, 22)),
-    (rows(put(PA, 0, "2"), put(PATTERNS[0], 5, "3")), 255, refuse(11, 0)),
-    (rows(103, 99, put(PATTERNS[99], 1, "2"), stop=put(STOP, 3, "2")), 255, refuse(11, 23)),
+    (rows(put(PA, 0, "2"), put(PATTERNS[0], 5, "3")), MOST, refuse(11, 0)),
+    (rows(103, 99, put(PATTERNS[99], 1, "2"), stop=put(STOP, 3, "2")), MOST, refuse(11, 23)),
 ])
 reading("readBlocks", """
 Refusals 12, 16 and 13, by hand: the first block from the left that is no pattern, 16 where its
 number of bar cells is odd and else 12; or that is not a START at block 0, or that is above 102
 after it. They come before 15, 14 and 5.
 """, [
-    (rows(flip(PA, 10), 0), 255, refuse(16, 0)),
-    (rows(ZERO, 0), 255, refuse(12, 0)),
-    (rows(ONES, 0), 255, refuse(16, 0)),
-    (rows(NONE, 0), 255, refuse(12, 0)),
-    (rows(PA[::-1], 0), 255, refuse(12, 0)),
-    (rows(103, flip(PATTERNS[0], 4)), 255, refuse(16, 1)),
-    (rows(103, NONE), 255, refuse(12, 1)),
-    (rows(105, flip(PATTERNS[12], 1), 14), 255, refuse(16, 1)),
-    (rows(105, 12, ZERO), 255, refuse(12, 2)),
-    (rows(105, 12, flip(PATTERNS[14], 9)), 255, refuse(16, 2)),
-    (rows(104, 33, 41, ONES, 45), 255, refuse(16, 3)),
+    (rows(flip(PA, 10), 0), MOST, refuse(16, 0)),
+    (rows(ZERO, 0), MOST, refuse(12, 0)),
+    (rows(ONES, 0), MOST, refuse(16, 0)),
+    (rows(NONE, 0), MOST, refuse(12, 0)),
+    (rows(PA[::-1], 0), MOST, refuse(12, 0)),
+    (rows(103, flip(PATTERNS[0], 4)), MOST, refuse(16, 1)),
+    (rows(103, NONE), MOST, refuse(12, 1)),
+    (rows(105, flip(PATTERNS[12], 1), 14), MOST, refuse(16, 1)),
+    (rows(105, 12, ZERO), MOST, refuse(12, 2)),
+    (rows(105, 12, flip(PATTERNS[14], 9)), MOST, refuse(16, 2)),
+    (rows(104, 33, 41, ONES, 45), MOST, refuse(16, 3)),
     (rows(104, 33, 41, 45, ONES), 0, refuse(16, 4)),
-    (rows(0, 0), 255, refuse(13, 0)),
-    (rows(102, 0), 255, refuse(13, 0)),
-    (rows(33, 41, 45), 255, refuse(13, 0)),
-    (rows(103, 103), 255, refuse(13, 1)),
-    (rows(103, 104), 255, refuse(13, 1)),
-    (rows(105, 103, 14), 255, refuse(13, 1)),
-    (rows(105, 12, 103), 255, refuse(13, 2)),
-    (rows(105, 12, 105), 255, refuse(13, 2)),
-    (rows(104, 33, 104, 45, 45), 255, refuse(13, 2)),
+    (rows(0, 0), MOST, refuse(13, 0)),
+    (rows(102, 0), MOST, refuse(13, 0)),
+    (rows(33, 41, 45), MOST, refuse(13, 0)),
+    (rows(103, 103), MOST, refuse(13, 1)),
+    (rows(103, 104), MOST, refuse(13, 1)),
+    (rows(105, 103, 14), MOST, refuse(13, 1)),
+    (rows(105, 12, 103), MOST, refuse(13, 2)),
+    (rows(105, 12, 105), MOST, refuse(13, 2)),
+    (rows(104, 33, 104, 45, 45), MOST, refuse(13, 2)),
     (rows(104, 33, 41, 45, 104), 0, refuse(13, 4)),
     # both refusals apply: the one further left is answered
-    (rows(ZERO, 103), 255, refuse(12, 0)),
-    (rows(33, ZERO), 255, refuse(13, 0)),
-    (rows(105, ZERO, 103), 255, refuse(12, 1)),
-    (rows(105, 103, ZERO), 255, refuse(13, 1)),
-    (rows(104, 33, ZERO, 103, 45), 255, refuse(12, 2)),
-    (rows(104, 33, 103, ZERO, 45), 255, refuse(13, 2)),
+    (rows(ZERO, 103), MOST, refuse(12, 0)),
+    (rows(33, ZERO), MOST, refuse(13, 0)),
+    (rows(105, ZERO, 103), MOST, refuse(12, 1)),
+    (rows(105, 103, ZERO), MOST, refuse(13, 1)),
+    (rows(104, 33, ZERO, 103, 45), MOST, refuse(12, 2)),
+    (rows(104, 33, 103, ZERO, 45), MOST, refuse(13, 2)),
     # before 15
-    (rows(103, 103, stop=ZERO + "00"), 255, refuse(13, 1)),
-    (rows(103, ZERO, stop=ZERO + "00"), 255, refuse(12, 1)),
-    (rows(33, 0, stop=flip(STOP, 0)), 255, refuse(13, 0)),
+    (rows(103, 103, stop=ZERO + "00"), MOST, refuse(13, 1)),
+    (rows(103, ZERO, stop=ZERO + "00"), MOST, refuse(12, 1)),
+    (rows(33, 0, stop=flip(STOP, 0)), MOST, refuse(13, 0)),
 ])
 # for each number of bar cells from 0 to 11, a block with all its bar cells in front, which is no pattern
-cases = [(rows(103, "1" * k + "0" * (11 - k)), 255, refuse(number, 1))
+cases = [(rows(103, "1" * k + "0" * (11 - k)), MOST, refuse(number, 1))
          for k, number in enumerate((12, 16, 12, 16, 12, 16, 12, 16, 12, 16, 12, 16))]
 cases += [
     # two cells flipped in a pattern: no pattern, or another pattern
-    (rows(flip(flip(PA, 9), 10), 0), 255, refuse(12, 0)),
-    (rows(105, flip(flip(PATTERNS[12], 0), 1), 14), 255, refuse(12, 1)),
-    (rows(105, 12, flip(flip(PATTERNS[14], 9), 10)), 255, refuse(12, 2)),
-    (rows(flip(flip(PA, 6), 8), 0), 255, refuse(14, 1)),
-    (rows(105, flip(flip(PATTERNS[12], 1), 2), 14), 255, refuse(13, 1)),
+    (rows(flip(flip(PA, 9), 10), 0), MOST, refuse(12, 0)),
+    (rows(105, flip(flip(PATTERNS[12], 0), 1), 14), MOST, refuse(12, 1)),
+    (rows(105, 12, flip(flip(PATTERNS[14], 9), 10)), MOST, refuse(12, 2)),
+    (rows(flip(flip(PA, 6), 8), 0), MOST, refuse(14, 1)),
+    (rows(105, flip(flip(PATTERNS[12], 1), 2), 14), MOST, refuse(13, 1)),
     # three in a pattern, and one in each of two patterns
-    (rows(flip(flip(flip(PA, 0), 1), 2), 0), 255, refuse(16, 0)),
-    (rows(105, flip(PATTERNS[12], 10), flip(PATTERNS[14], 0)), 255, refuse(16, 1)),
+    (rows(flip(flip(flip(PA, 0), 1), 2), 0), MOST, refuse(16, 0)),
+    (rows(105, flip(PATTERNS[12], 10), flip(PATTERNS[14], 0)), MOST, refuse(16, 1)),
     # both 12 and 16 apply: the one further left is answered
-    (rows(ONES, ZERO), 255, refuse(16, 0)),
-    (rows(ZERO, ONES), 255, refuse(12, 0)),
-    (rows(105, ONES, NONE), 255, refuse(16, 1)),
-    (rows(105, NONE, ONES), 255, refuse(12, 1)),
-    (rows(104, 33, flip(PATTERNS[41], 4), ZERO, 45), 255, refuse(16, 2)),
-    (rows(104, 33, ZERO, flip(PATTERNS[45], 4), 45), 255, refuse(12, 2)),
+    (rows(ONES, ZERO), MOST, refuse(16, 0)),
+    (rows(ZERO, ONES), MOST, refuse(12, 0)),
+    (rows(105, ONES, NONE), MOST, refuse(16, 1)),
+    (rows(105, NONE, ONES), MOST, refuse(12, 1)),
+    (rows(104, 33, flip(PATTERNS[41], 4), ZERO, 45), MOST, refuse(16, 2)),
+    (rows(104, 33, ZERO, flip(PATTERNS[45], 4), 45), MOST, refuse(12, 2)),
     # both 13 and 16
-    (rows(ONES, 103), 255, refuse(16, 0)),
-    (rows(33, ONES), 255, refuse(13, 0)),
-    (rows(105, flip(PATTERNS[12], 5), 103), 255, refuse(16, 1)),
-    (rows(105, 103, flip(PATTERNS[14], 5)), 255, refuse(13, 1)),
+    (rows(ONES, 103), MOST, refuse(16, 0)),
+    (rows(33, ONES), MOST, refuse(13, 0)),
+    (rows(105, flip(PATTERNS[12], 5), 103), MOST, refuse(16, 1)),
+    (rows(105, 103, flip(PATTERNS[14], 5)), MOST, refuse(13, 1)),
     # in the check's place, before 15, 14 and 5
     (rows(103, flip(PATTERNS[0], 10)), 0, refuse(16, 1)),
-    (rows(103, flip(PATTERNS[1], 10)), 255, refuse(16, 1)),
+    (rows(103, flip(PATTERNS[1], 10)), MOST, refuse(16, 1)),
     (rows(105, 13, flip(PATTERNS[14], 0)), 1, refuse(16, 2)),
-    (rows(103, flip(PATTERNS[0], 0), stop=ZERO + "00"), 255, refuse(16, 1)),
+    (rows(103, flip(PATTERNS[0], 0), stop=ZERO + "00"), MOST, refuse(16, 1)),
     (rows(flip(PA, 0), 1, stop=flip(STOP, 0)), 0, refuse(16, 0)),
 ]
 assert all(p.count("1") % 2 == 0 for p in PATTERNS)
@@ -703,25 +714,25 @@ Refusal 16 and its neighbours, by hand from request 3 of document 02: a block th
 answered 16 where its number of bar cells is odd. Every pattern has an even number, so one cell
 flipped in a pattern makes 16, and two make 12 or another pattern.
 """, cases)
-cases = [(rows(103, 0, stop=flip(STOP, i)), 255, refuse(15, 22 + i)) for i in range(13)]
-cases += [(rows(105, 12, 14, stop=flip(STOP, i)), 255, refuse(15, 33 + i)) for i in (0, 6, 12)]
-cases += [(rows(103, 0, stop=ZERO + "00"), 255, refuse(15, 22)), (rows(103, 0, stop=ONES + "11"), 255, refuse(15, 24)),
-          (rows(103, 0, stop=PATTERNS[103] + "11"), 255, refuse(15, 25)), (rows(103, 0, stop=STOP[::-1]), 255, refuse(15, 25)),
-          (rows(103, 0, stop=flip(flip(STOP, 12), 5)), 255, refuse(15, 27)),
+cases = [(rows(103, 0, stop=flip(STOP, i)), MOST, refuse(15, 22 + i)) for i in range(13)]
+cases += [(rows(105, 12, 14, stop=flip(STOP, i)), MOST, refuse(15, 33 + i)) for i in (0, 6, 12)]
+cases += [(rows(103, 0, stop=ZERO + "00"), MOST, refuse(15, 22)), (rows(103, 0, stop=ONES + "11"), MOST, refuse(15, 24)),
+          (rows(103, 0, stop=PATTERNS[103] + "11"), MOST, refuse(15, 25)), (rows(103, 0, stop=STOP[::-1]), MOST, refuse(15, 25)),
+          (rows(103, 0, stop=flip(flip(STOP, 12), 5)), MOST, refuse(15, 27)),
           # the stop before its place: its place follows from the row's length, not from a search
-          (rows(103, 0, stop="1100011101011 00000000000"), 255, refuse(12, 2)),
-          (rows(103, 0, stop="11000111010 1100011101011"), 255, refuse(12, 2)),
+          (rows(103, 0, stop="1100011101011 00000000000"), MOST, refuse(12, 2)),
+          (rows(103, 0, stop="11000111010 1100011101011"), MOST, refuse(12, 2)),
           # before 14 and 5
-          (rows(103, 1, stop=flip(STOP, 12)), 255, refuse(15, 34)), (rows(105, 12, 15, stop=flip(STOP, 1)), 0, refuse(15, 34)),
-          (rows(104, 0, stop=flip(STOP, 11)), 255, refuse(15, 33))]
+          (rows(103, 1, stop=flip(STOP, 12)), MOST, refuse(15, 34)), (rows(105, 12, 15, stop=flip(STOP, 1)), 0, refuse(15, 34)),
+          (rows(104, 0, stop=flip(STOP, 11)), MOST, refuse(15, 33))]
 reading("readStops", "Refusal 15, by hand: it gives the place in the row of the first wrong cell of the last 13.", cases)
 cases = [
-    (rows(103, 1), 255, refuse(14, 0)), (rows(103, 102), 255, refuse(14, 0)), (rows(104, 0), 255, refuse(14, 1)), (rows(105, 0), 255, refuse(14, 2)),
-    (rows(105, 12, 13), 255, refuse(14, 14)), (rows(105, 12, 15), 0, refuse(14, 14)), (rows(105, 13, 14), 255, refuse(14, 15)), (rows(104, 12, 14), 255, refuse(14, 13)),
-    (rows(103, 12, 14), 255, refuse(14, 12)), (rows(105, 99, 99), 255, refuse(14, 101)), (rows(104, 33, 41, 45, 44), 255, refuse(14, 45)),
-    (rows(104, 41, 33, 45, 45), 255, refuse(14, 37)), (rows(104, 33, 41, 45, 99, 12, 34, 86), 6, refuse(14, 87)), (rows(105, 102, 12, 24), 255, refuse(14, 25)),
+    (rows(103, 1), MOST, refuse(14, 0)), (rows(103, 102), MOST, refuse(14, 0)), (rows(104, 0), MOST, refuse(14, 1)), (rows(105, 0), MOST, refuse(14, 2)),
+    (rows(105, 12, 13), MOST, refuse(14, 14)), (rows(105, 12, 15), 0, refuse(14, 14)), (rows(105, 13, 14), MOST, refuse(14, 15)), (rows(104, 12, 14), MOST, refuse(14, 13)),
+    (rows(103, 12, 14), MOST, refuse(14, 12)), (rows(105, 99, 99), MOST, refuse(14, 101)), (rows(104, 33, 41, 45, 44), MOST, refuse(14, 45)),
+    (rows(104, 41, 33, 45, 45), MOST, refuse(14, 37)), (rows(104, 33, 41, 45, 99, 12, 34, 86), 6, refuse(14, 87)), (rows(105, 102, 12, 24), MOST, refuse(14, 25)),
     # room
-    (rows(103, 0), 0, refuse(5, 1)), (rows(103, 0), 1, accept([103])), (rows(104, 1), 1, accept([104])), (rows(105, 2), 1, accept([105])), (rows(103, 0), 2829, accept([103])),
+    (rows(103, 0), 0, refuse(5, 1)), (rows(103, 0), 1, accept([103])), (rows(104, 1), 1, accept([104])), (rows(105, 2), 1, accept([105])), (rows(103, 0), MOST, accept([103])),
     (rows(105, 12, 14), 1, refuse(5, 2)), (rows(105, 12, 14), 2, accept([105, 12])), (rows(105, 102, 12, 25), 2, refuse(5, 3)), (rows(105, 102, 12, 25), 3, accept([105, 102, 12])),
     (rows(104, 33, 41, 45, 45), 3, refuse(5, 4)), (rows(104, 33, 41, 45, 45), 4, accept([104, 33, 41, 45])),
     (rows(104, 33, 41, 45, 99, 12, 34, 87), 7, accept([104, 33, 41, 45, 99, 12, 34])), (rows(104, 98, 99), 2, accept([104, 98])), (rows(104, 95, 96), 2, accept([104, 95])),
@@ -729,15 +740,16 @@ cases = [
 ]
 reading("readChecks", "Refusal 14 with the right check number, refusal 5 with n, and rows that are accepted, by hand.", cases)
 
-B103 = [104] + [33] * 103
+B103 = [104] + [1] * 103
 good = lambda s: [int(d) for m in s + [model.check_of(s)] for d in PATTERNS[m]] + [int(d) for d in STOP]
-assert model.read(255, good(A254)) == accept(A254)
-TABLES.append("""-- The longest row, put together from the crate's patterns; model.py computed the check.
+assert model.read(255, good(A254)) == accept(A254) and model.read(256, good(A255)) == accept(A255)
+TABLES.append("""-- Two of the rows of `longRows`, read.
 unfoldable pub readLong : List Example
 readLong =
-    (cellsOf "%s" ++ (times 254 (cellsOf "%s") ++ cellsOf "%s %s") into 255 gives accept 255 (104 ∷ replicate 254 33)) ∷ []
-""" % (PB, PATTERNS[33], PATTERNS[LONG_C[0]], STOP))
-COUNTS.append(("d", "readLong", 1))
+    (cellsOf "%s" ++ (times 254 (cellsOf "%s") ++ cellsOf "%s %s") into 255 gives accept 255 (104 ∷ replicate 254 33)) ∷
+    (cellsOf "%s" ++ (times 255 (cellsOf "%s") ++ cellsOf "%s %s") into 256 gives accept 256 (104 ∷ replicate 255 33)) ∷ []
+""" % (PB, PATTERNS[33], PATTERNS[LONG_C[0]], STOP, PB, PATTERNS[33], PATTERNS[LONG_C[2]], STOP))
+COUNTS.append(("d", "readLong", 2))
 states("readLong-hold", "map (asked read) readLong ≡ map given readLong")
 
 # ================================================================ e. spell, scan, draw
@@ -788,15 +800,16 @@ buffer just long enough.
 """, LISTS)
 
 bad = [
-    ("[]", [], 0, refuse(10, 0)), ("[]", [], 2829, refuse(10, 0)),
-    ("103 ∷ replicate 255 33", [103] + [33] * 255, 2829, refuse(10, 256)), ("replicate 256 106", [106] * 256, 0, refuse(10, 256)), ("replicate 300 0", [0] * 300, 2829, refuse(10, 300)),
-    ("0 ∷ []", [0], 2829, refuse(13, 0)), ("33 ∷ []", [33], 2829, refuse(13, 0)), ("99 ∷ []", [99], 0, refuse(13, 0)), ("102 ∷ []", [102], 2829, refuse(13, 0)),
-    ("106 ∷ []", [106], 2829, refuse(13, 0)), ("255 ∷ []", [255], 0, refuse(13, 0)), ("102 ∷ 103 ∷ []", [102, 103], 2829, refuse(13, 0)), ("106 ∷ 106 ∷ []", [106, 106], 2829, refuse(13, 0)),
-    ("103 ∷ 103 ∷ []", [103, 103], 2829, refuse(13, 1)), ("103 ∷ 104 ∷ 105 ∷ []", [103, 104, 105], 2829, refuse(13, 1)), ("105 ∷ 106 ∷ []", [105, 106], 0, refuse(13, 1)),
-    ("104 ∷ 255 ∷ []", [104, 255], 2829, refuse(13, 1)), ("104 ∷ 102 ∷ 103 ∷ []", [104, 102, 103], 2829, refuse(13, 2)), ("104 ∷ 33 ∷ 41 ∷ 105 ∷ 255 ∷ []", [104, 33, 41, 105, 255], 0, refuse(13, 3)),
-    ("105 ∷ 99 ∷ 98 ∷ 97 ∷ 106 ∷ []", [105, 99, 98, 97, 106], 2829, refuse(13, 4)),
-    ("104 ∷ replicate 253 33 ++ (103 ∷ [])", [104] + [33] * 253 + [103], 2829, refuse(13, 254)), ("0 ∷ replicate 254 33", [0] + [33] * 254, 0, refuse(13, 0)),
-    ("replicate 255 103", [103] * 255, 2829, refuse(13, 1)),
+    ("[]", [], 0, refuse(10, 0)), ("[]", [], ROOM, refuse(10, 0)),
+    ("103 ∷ replicate 4000 33", [103] + [33] * 4000, ROOM, refuse(10, 4001)), ("replicate 4001 106", [106] * 4001, 0, refuse(10, 4001)), ("replicate 5000 0", [0] * 5000, ROOM, refuse(10, 5000)),
+    ("0 ∷ []", [0], ROOM, refuse(13, 0)), ("33 ∷ []", [33], ROOM, refuse(13, 0)), ("99 ∷ []", [99], 0, refuse(13, 0)), ("102 ∷ []", [102], ROOM, refuse(13, 0)),
+    ("106 ∷ []", [106], ROOM, refuse(13, 0)), ("255 ∷ []", [255], 0, refuse(13, 0)), ("102 ∷ 103 ∷ []", [102, 103], ROOM, refuse(13, 0)), ("106 ∷ 106 ∷ []", [106, 106], ROOM, refuse(13, 0)),
+    ("103 ∷ 103 ∷ []", [103, 103], ROOM, refuse(13, 1)), ("103 ∷ 104 ∷ 105 ∷ []", [103, 104, 105], ROOM, refuse(13, 1)), ("105 ∷ 106 ∷ []", [105, 106], 0, refuse(13, 1)),
+    ("104 ∷ 255 ∷ []", [104, 255], ROOM, refuse(13, 1)), ("104 ∷ 102 ∷ 103 ∷ []", [104, 102, 103], ROOM, refuse(13, 2)), ("104 ∷ 33 ∷ 41 ∷ 105 ∷ 255 ∷ []", [104, 33, 41, 105, 255], 0, refuse(13, 3)),
+    ("105 ∷ 99 ∷ 98 ∷ 97 ∷ 106 ∷ []", [105, 99, 98, 97, 106], ROOM, refuse(13, 4)),
+    ("104 ∷ replicate 253 33 ++ (103 ∷ [])", [104] + [33] * 253 + [103], ROOM, refuse(13, 254)), ("0 ∷ replicate 254 33", [0] + [33] * 254, 0, refuse(13, 0)),
+    ("replicate 255 103", [103] * 255, ROOM, refuse(13, 1)), ("replicate 256 106", [106] * 256, 0, refuse(13, 0)), ("replicate 300 0", [0] * 300, ROOM, refuse(13, 0)),
+    ("104 ∷ replicate 254 33 ++ (103 ∷ [])", [104] + [33] * 254 + [103], ROOM, refuse(13, 255)), ("replicate 4000 103", [103] * 4000, ROOM, refuse(13, 1)),
 ]
 entries = []
 for shown, value, room, answer in bad:
@@ -813,6 +826,7 @@ for s, room, answer in [
     entries.append(held_to("draw", listed(s), s, room, answer, lambda a: plain_answer(a, listed)))
 v = [104] + [33] * 254
 entries.append(held_to("draw", "104 ∷ replicate 254 33", v, 2828, refuse(5, 2829), lambda a: plain_answer(a, listed)))
+entries.append(held_to("draw", "104 ∷ replicate 255 33", v + [33], 2839, refuse(5, 2840), lambda a: plain_answer(a, listed)))
 examples_table("e", "drawShort", "draw", "Refusal 5 of draw, by hand: a row has 11(n+1)+13 cells.", entries)
 entries = []
 for s, room, answer in [
@@ -823,7 +837,13 @@ v = [105] + [0] * 254
 entries.append(held_to("spell", "105 ∷ replicate 254 0", v, 508, refuse(5, 509), lambda a: plain_answer(a, listed)))
 assert model.spell(509, v) == accept([0x106] + [48] * 508)
 entries.append("105 ∷ replicate 254 0 into 509 gives accept 509 (Ć ∷ replicate 508 48)")
-examples_table("e", "spellShort", "spell", "Refusal 5 of spell, by hand, and \"At most 1 + 2·254 = 509 code points.\"", entries)
+entries.append(held_to("spell", "105 ∷ replicate 255 0", v + [0], 510, refuse(5, 511), lambda a: plain_answer(a, listed)))
+assert model.spell(7999, [105] + [0] * 3999) == accept([0x106] + [48] * 7998)
+entries.append("105 ∷ replicate 3999 0 into 7999 gives accept 7999 (Ć ∷ replicate 7998 48)")
+examples_table("e", "spellShort", "spell", """
+Refusal 5 of spell, by hand; "At most 1 + 2·254 = 509 code points" in document 01, and "spelling
+7,999 code points" by request 4.
+""", entries)
 entries = []
 for s, room, answer in [
     ([103], 0, accept([])), ([103, 98, 102], 0, accept([])), ([105, 12], 1, refuse(5, 2)), ([105, 12], 0, refuse(5, 2)), ([104, 33, 41, 45], 2, refuse(5, 3)), ([104, 33, 102], 0, refuse(5, 1)),
@@ -833,7 +853,12 @@ for s, room, answer in [
 entries.append(held_to("scan", "105 ∷ replicate 254 0", v, 507, refuse(5, 508), lambda a: plain_answer(a, listed)))
 assert model.scan(508, v) == accept([48] * 508)
 entries.append("105 ∷ replicate 254 0 into 508 gives accept 508 (replicate 508 48)")
-examples_table("e", "scanShort", "scan", "Refusal 5 of scan, by hand, and empty buffers where nothing is sent.", entries)
+entries.append(held_to("scan", "105 ∷ replicate 255 0", v + [0], 509, refuse(5, 510), lambda a: plain_answer(a, listed)))
+assert model.scan(7998, [105] + [0] * 3999) == accept([48] * 7998)
+entries.append("105 ∷ replicate 3999 0 into 7998 gives accept 7998 (replicate 7998 48)")
+examples_table("e", "scanShort", "scan", """
+Refusal 5 of scan, by hand, empty buffers where nothing is sent, and all that 4,000 symbols can send.
+""", entries)
 
 # Shift in scan: what a number below 96 sends in set A and in set B, as the standard's table has it
 SENDS = {"A": [*range(0x20, 0x60), *range(0x00, 0x20)], "B": [*range(0x20, 0x80)]}
@@ -919,7 +944,7 @@ BA, BC = shown_bytes(RA)[1], shown_bytes(RC)[1]
 CA, CC = "11010000 10011011 00110011 00011101 011", "11010011 10010110 01110010 01100111 01100011 101011"
 VA, VC = shown_cells(CA)[1], shown_cells(CC)[1]
 entries = by_hand("pack", [
-    (*shown_cells(CA), 7, accept(BA)), (*shown_cells(CA), 6, refuse(5, 7)), (*shown_cells(CA), 0, refuse(5, 7)), (*shown_cells(CA), 2829, accept(BA)),
+    (*shown_cells(CA), 7, accept(BA)), (*shown_cells(CA), 6, refuse(5, 7)), (*shown_cells(CA), 0, refuse(5, 7)), (*shown_cells(CA), ROOM, accept(BA)),
     (*shown_cells(CC), 8, accept(BC)), (*shown_cells(CC), 7, refuse(5, 8)),
     # rows that cannot be read are packed too
     ("replicate 35 0", [0] * 35, 7, accept(shown_bytes("01 01 00 00 00 00 00")[1])), ("replicate 35 1", [1] * 35, 7, accept(shown_bytes("01 01 FF FF FF FF E0")[1])),
@@ -929,17 +954,17 @@ entries = by_hand("pack", [
     # n = 8: 112 cells, no spare bit
     ("replicate 112 1", [1] * 112, 16, accept(shown_bytes("01 08" + " FF" * 14)[1])),
     # 10, 11, 5
-    ("[]", [], 2829, refuse(10, 0)), ("replicate 24 1", [1] * 24, 2829, refuse(10, 24)), ("replicate 34 2", [2] * 34, 0, refuse(10, 34)), ("replicate 36 0", [0] * 36, 2829, refuse(10, 36)),
-    ("replicate 40 0", [0] * 40, 2829, refuse(10, 40)), ("replicate 2830 0", [0] * 2830, 2829, refuse(10, 2830)), ("replicate 2840 0", [0] * 2840, 2829, refuse(10, 2840)),
+    ("[]", [], ROOM, refuse(10, 0)), ("replicate 24 1", [1] * 24, ROOM, refuse(10, 24)), ("replicate 34 2", [2] * 34, 0, refuse(10, 34)), ("replicate 36 0", [0] * 36, ROOM, refuse(10, 36)),
+    ("replicate 40 0", [0] * 40, ROOM, refuse(10, 40)), ("replicate 2830 0", [0] * 2830, ROOM, refuse(10, 2830)), ("replicate 2839 0", [0] * 2839, ROOM, refuse(10, 2839)),
     ("replicate 35 2", [2] * 35, 0, refuse(11, 0)), ("replicate 34 0 ++ (2 ∷ [])", [0] * 34 + [2], 0, refuse(11, 34)), ("replicate 46 1", [1] * 46, 0, refuse(5, 8)),
-    (*shown_cells("11010000 10011211 00110011 00011101 091"), 2829, refuse(11, 13)), ("255 ∷ replicate 34 7", [255] + [7] * 34, 7, refuse(11, 0)),
+    (*shown_cells("11010000 10011211 00110011 00011101 091"), ROOM, refuse(11, 13)), ("255 ∷ replicate 34 7", [255] + [7] * 34, 7, refuse(11, 0)),
     ("replicate 2829 0", [0] * 2829, 355, refuse(5, 356)),
 ], lambda o: hexed_bytes(o))
 assert model.pack(356, [1] * 2829) == accept([1, 255] + [255] * 353 + [0xF8])
 entries.append("replicate 2829 1 into 356 gives accept 356 (1 ∷ 255 ∷ replicate 353 255 ++ (0xF8 ∷ []))")
 examples_table("f", "packings", "pack", """
-By hand from "Row record" and "Pack: 10, 11, 5". The first rows are those of "The label program",
-written with eight cells together.
+By hand from "Row record" and "Pack: 10, 11, 5", records of version 1. The first rows are those of
+"The label program", written with eight cells together.
 """, entries)
 
 
@@ -955,7 +980,7 @@ cases = [
     (*sb(BA), 35, accept(VA)), (*sb(BA), 34, refuse(5, 35)), (*sb(BC), 46, accept(VC)), (*sb(BC), 45, refuse(5, 46)),
 ]
 # each spare bit alone, and all of them
-cases += [(*sb(set_bits(BA, b)), 2829, refuse(23, 6)) for b in (1, 2, 4, 8, 16, 31)] + [(*sb(set_bits(BC, b)), 2829, refuse(23, 7)) for b in (1, 2, 3)]
+cases += [(*sb(set_bits(BA, b)), ROOM, refuse(23, 6)) for b in (1, 2, 4, 8, 16, 31)] + [(*sb(set_bits(BC, b)), ROOM, refuse(23, 7)) for b in (1, 2, 3)]
 cases += [(*sb(set_bits(BA, 1)), 0, refuse(23, 6))]
 # the lowest bit that is not spare
 cases += [(*shown_bytes("01 01 00 00 00 00 20"), 35, accept([0] * 34 + [1])), (*shown_bytes("01 01 80 00 00 00 00"), 35, accept([1] + [0] * 34)),
@@ -963,21 +988,21 @@ cases += [(*shown_bytes("01 01 00 00 00 00 20"), 35, accept([0] * 34 + [1])), (*
           (*shown_bytes("01 01 01 02 04 08 00"), 35, accept([int(d) for d in "00000001000000100000010000001000000"])),
           (*shown_bytes("01 08" + " FF" * 14), 112, accept([1] * 112)), (*shown_bytes("01 08" + " FF" * 14), 111, refuse(5, 112)), (*shown_bytes("01 08" + " FF" * 15), 112, refuse(22, 16))]
 # 20, 21, 22
-cases += [("[]", [], 2829, refuse(20, 0)), ("0 ∷ []", [0], 0, refuse(20, 1)), ("2 ∷ []", [2], 2829, refuse(20, 1)),
-          (*sb([0] + BA[1:]), 35, refuse(21, 0)), (*sb([2] + BA[1:]), 35, refuse(21, 2)), (*sb([255] + BA[1:]), 0, refuse(21, 255)), (*sb([2, 0]), 35, refuse(21, 2)), (*sb([0, 0]), 35, refuse(21, 0)),
+cases += [("[]", [], ROOM, refuse(20, 0)), ("0 ∷ []", [0], 0, refuse(20, 1)), ("2 ∷ []", [2], ROOM, refuse(20, 1)),
+          (*sb([0] + BA[1:]), 35, refuse(21, 0)), (*sb([4] + BA[1:]), 35, refuse(21, 4)), (*sb([255] + BA[1:]), 0, refuse(21, 255)), (*sb([3, 0]), 35, refuse(21, 3)), (*sb([0, 0]), 35, refuse(21, 0)),
           (*sb([3] + set_bits(BA, 1)[1:]), 35, refuse(21, 3)),
           (*sb([1, 0, 0]), 35, refuse(22, 0)), (*sb([1, 0, 0, 0, 0]), 35, refuse(22, 0)), (*sb([1, 0, 255, 255, 255]), 0, refuse(22, 0)),
           (*sb([1, 1]), 35, refuse(22, 7)), (*sb(BA[:-1]), 35, refuse(22, 7)), (*sb(BA + [0]), 35, refuse(22, 7)), (*sb(BA + [255]), 0, refuse(22, 7)),
           (*sb([1, 2] + BA[2:]), 46, refuse(22, 8)), (*sb([1, 1] + BC[2:]), 46, refuse(22, 7)), (*sb(set_bits(BA[:-1], 1)), 0, refuse(22, 7)),
-          (*sb([1, 3]), 0, refuse(22, 10)), (*sb([1, 8]), 0, refuse(22, 16)), (*sb([1, 254]), 2829, refuse(22, 355)), (*sb([1, 255]), 2829, refuse(22, 356)),
-          ("1 ∷ 255 ∷ replicate 353 0", [1, 255] + [0] * 353, 2829, refuse(22, 356)), ("1 ∷ 255 ∷ replicate 355 0", [1, 255] + [0] * 355, 2829, refuse(22, 356)),
-          ("1 ∷ 255 ∷ replicate 354 0", [1, 255] + [0] * 354, 2828, refuse(5, 2829)), ("1 ∷ 255 ∷ replicate 353 0 ++ (4 ∷ [])", [1, 255] + [0] * 353 + [4], 2829, refuse(23, 355))]
+          (*sb([1, 3]), 0, refuse(22, 10)), (*sb([1, 8]), 0, refuse(22, 16)), (*sb([1, 254]), ROOM, refuse(22, 355)), (*sb([1, 255]), ROOM, refuse(22, 356)),
+          ("1 ∷ 255 ∷ replicate 353 0", [1, 255] + [0] * 353, ROOM, refuse(22, 356)), ("1 ∷ 255 ∷ replicate 355 0", [1, 255] + [0] * 355, ROOM, refuse(22, 356)),
+          ("1 ∷ 255 ∷ replicate 354 0", [1, 255] + [0] * 354, 2828, refuse(5, 2829)), ("1 ∷ 255 ∷ replicate 353 0 ++ (4 ∷ [])", [1, 255] + [0] * 353 + [4], ROOM, refuse(23, 355))]
 entries = by_hand("unpack", cases, lambda o: ("replicate %d %d" % (len(o), o[0])) if len(set(o)) == 1 else 'cellsOf "%s"' % "".join(map(str, o)))
 assert model.unpack(2829, [1, 255] + [255] * 353 + [0xF8]) == accept([1] * 2829)
 entries.append("1 ∷ 255 ∷ replicate 353 255 ++ (0xF8 ∷ []) into 2829 gives accept 2829 (replicate 2829 1)")
 examples_table("f", "unpackings", "unpack", """
-By hand from "Row record" and "Unpack: 20, 21, 22, 23, 5": each spare bit, count 0, one byte too few
-and one too many, and the versions 0, 2, 3 and 255.
+By hand from "Row record" and "Unpack: 20, 21, 22, 23, 5", records of version 1: each spare bit,
+count 0, one byte too few and one too many; and the versions 0, 3, 4 and 255.
 """, entries)
 
 # ================================================================ g. settle
@@ -1018,8 +1043,16 @@ def shown_equal(n, m):
     return "replicate %d %d" % (n, m), [m] * n
 
 
+def shown_times(n, t):
+    return 'times %d (%s)' % (n, shown_cells(t)[0]), n * shown_cells(t)[1]
+
+
 def then(first, rest):
     return "%s ++ (%s)" % (first[0], rest[0]), first[1] + rest[1]
+
+
+def ahead(numbers, rest):
+    return " ∷ ".join([*map(str, numbers), rest[0]]), list(numbers) + rest[1]
 
 
 ROW_A = "11010000100110110011001100011101011"
@@ -1057,6 +1090,11 @@ for job, given, before, number, second, after in [
     ("pack", shown_equal(35, 1), shown_list(0, 0, 0, 0, 0, 0, 0, 77), 0, 7, shown_bytes("01 01 FF FF FF FF E0 4D")),
     ("unpack", shown_bytes("01 01 00 00 00 00 00"), shown_equal(36, 5), 0, 35, then(shown_equal(35, 0), shown_list(5))),
     ("unpack", shown_bytes("01 00"), shown_list(6), 22, 0, shown_list(6)),
+    ("pack", shown_equal(2840, 1), shown_equal(360, 7), 0, 358, then(ahead([2, 1, 0], shown_equal(355, 255)), shown_list(7, 7))),
+    ("pack", shown_equal(2840, 1), shown_equal(357, 7), 5, 358, shown_equal(357, 7)),
+    ("unpack", ahead([2, 1, 0], shown_equal(355, 0)), shown_equal(2841, 5), 0, 2840, then(shown_equal(2840, 0), shown_list(5))),
+    ("unpack", shown_bytes("02 01"), shown_list(6, 6), 22, 0, shown_list(6, 6)),
+    ("unpack", shown_bytes("02 01 00"), shown_list(6, 6), 22, 358, shown_list(6, 6)),
 ]:
     got = model_of(job)(len(before[1]), given[1])
     if got[0] == "refuse":
@@ -1082,18 +1120,19 @@ for shown, s, i, m, answer in [
     (None, [105, 12], 0, 14, refuse(13, 0)), (None, [105, 12], 1, 13, refuse(14, 15)), (None, [105, 12], 1, 102, refuse(14, 1)), (None, [105, 12], 1, 105, refuse(13, 1)),
     (None, [105, 12], 2, 12, refuse(14, 14)), (None, [105, 12], 2, 105, refuse(13, 2)), (None, [104, 33, 41, 45], 2, 42, refuse(14, 47)), (None, [104, 33, 41, 45], 3, 0, refuse(14, 13)),
     (None, [104, 33, 41, 45], 4, 104, refuse(13, 4)),
-    ("104 ∷ replicate 103 33", B103, 103, 65, ("accept", 104, "104 ∷ replicate 102 33 ++ (65 ∷ [])")), 
-    ("104 ∷ replicate 102 33", [104] + [33] * 102, 103, 65, refuse(14, 1)), ("104 ∷ replicate 206 33", [104] + [33] * 206, 206, 0, ("accept", 207, "104 ∷ replicate 205 33 ++ (0 ∷ [])")),
+    ("104 ∷ replicate 103 1", B103, 103, 65, ("accept", 104, "104 ∷ replicate 102 1 ++ (65 ∷ [])")),
+    ("104 ∷ replicate 102 1", B103[:103], 103, 65, refuse(14, 1)), ("104 ∷ replicate 206 1", [104] + [1] * 206, 206, 0, ("accept", 207, "104 ∷ replicate 205 1 ++ (0 ∷ [])")),
+    ("104 ∷ replicate 309 1", [104] + [1] * 309, 309, 65, ("accept", 310, "104 ∷ replicate 308 1 ++ (65 ∷ [])")),
 ]:
     number = (s + [model.check_of(s)])[i]
     cells = good(s)
     cells[11 * i:11 * i + 11] = [int(d) for d in PATTERNS[m]]
-    got = model.read(255, cells)
+    got = model.read(MOST, cells)
     assert number != m and got[:2] == answer[:2] and (got[0] == "refuse" and got == answer or got[2] == s[:i] + [m] + s[i + 1:]), (s, i, m, got)
     entries.append("(%s) at %d drawn %d gives %s" % (shown or listed(s), i, m, "refuse %d %d" % answer[1:] if answer[0] == "refuse" else "accept %d (%s)" % answer[1:]))
 table("i", "redrawings", "Redrawn", """
-By hand: refusal 13 where the new number may not stand; an acceptance at the data places 103 and
-206, whose weight is 0 modulo 103; and otherwise refusal 14 with the check of the changed list.
+By hand: refusal 13 where the new number may not stand; an acceptance at the data places 103, 206
+and 309, whose weight is 0 modulo 103; and otherwise refusal 14 with the check of the changed list.
 """, entries, each=2)
 states("redrawings-hold", "map ruled redrawings ≡ map twice redrawings")
 
@@ -1111,7 +1150,7 @@ entries = []
 for s, i, answer in cases:
     cells = good(s)
     cells[i] = 1 - cells[i]
-    assert model.read(255, cells) == model.read(0, cells) == answer, (s, i, answer)
+    assert model.read(MOST, cells) == model.read(0, cells) == answer, (s, i, answer)
     entries.append("(%s) flippedAt %d gives refuse %d %d" % (listed(s), i, *answer[1:]))
 table("j", "flippings", "Flipped", """
 By hand from request 3 of document 02: refusal 16 with the block of the flipped cell, or 15 with its
@@ -1125,7 +1164,7 @@ states("flippings-hold", "map flips flippings ≡ map thrice flippings")
 title("k. FNC2 retired")
 entries = by_hand("encode", [
     # whatever the length of the buffer
-    *[('points "Ɓź"', P("Ɓź"), room, refuse(19, 1)) for room in (0, 34, 35, 45, 46, 2829)],
+    *[('points "Ɓź"', P("Ɓź"), room, refuse(19, 1)) for room in (0, 34, 35, 45, 46, ROOM)],
     # the place of the first ź
     *[('points "%s"' % x, P(x), ROOM, refuse(19, place)) for x, place in (
         ("Àź", 1), ("ƁAźź", 2), ("ÀźźźA", 1), ("ĆƁź", 2), ("ĆÀź", 2), ("Ć97Ɓź", 4), ("ÀĆ9797Ɓź", 7), ("Ć1Ź2Àź", 5), ("ƁźĆ12", 1), ("ÀƁź", 2), ("ƁÀź", 2), ("ÀźƁź", 1),
@@ -1149,7 +1188,7 @@ entries = by_hand("encode", [
     ("Ɓ ∷ replicate 254 65 ++ (0x17A ∷ [])", [0x181] + [65] * 254 + [FNC2], ROOM, refuse(19, 255)),
     ("Ɓ ∷ 0x17A ∷ replicate 254 65", [0x181, FNC2] + [65] * 254, ROOM, refuse(19, 1)),
     ("Ć ∷ replicate 510 48 ++ (Ɓ ∷ 0x17A ∷ [])", [0x106] + [48] * 510 + [0x181, FNC2], 0, refuse(19, 512)),
-    ("À ∷ replicate 255 0x17A", [0xC0] + [FNC2] * 255, 0, refuse(19, 1)),
+    ("À ∷ replicate 4000 0x17A", [0xC0] + [FNC2] * 4000, 0, refuse(19, 1)),
 ], listed)
 examples_table("k", "fnc2Refused", "encode", """
 Refusal 19 and its place in the order, by hand from request 12 of document 02: "19 at the first ź
@@ -1175,7 +1214,8 @@ entries = by_hand("encodeWithFNC2", [
     # 3 before 4, 4 before 5
     ('points "Ćź"', P("Ćź"), ROOM, refuse(3, 1)), ('points "Ɓź€"', P("Ɓź€"), 0, refuse(3, 2)), ('points "ƁźĆ1"', P("ƁźĆ1"), ROOM, refuse(3, 4)),
     ("Ɓ ∷ 0x17A ∷ 0xD800 ∷ []", [0x181, FNC2, 0xD800], ROOM, refuse(1, 2)),
-    ("Ɓ ∷ 0x17A ∷ replicate 254 65", [0x181, FNC2] + [65] * 254, 0, refuse(4, 256)),
+    ("Ɓ ∷ 0x17A ∷ replicate 3999 65", [0x181, FNC2] + [65] * 3999, 0, refuse(4, 4001)),
+    ("Ɓ ∷ 0x17A ∷ replicate 254 65", [0x181, FNC2] + [65] * 254, 2839, refuse(5, 2840)),
     ("Ɓ ∷ 0x17A ∷ replicate 253 65", [0x181, FNC2] + [65] * 253, 2828, refuse(5, 2829)),
 ], spaced)
 examples_table("k", "fnc2Before", "encodeWithFNC2", """
@@ -1213,8 +1253,8 @@ before request 12.
     (rows(104, 97, 98), 2, accept([104, 97])), (rows(104, 97, 98), 1, refuse(5, 2)), (rows(104, 97, 97), 2, refuse(14, 98)), (rows(103, 97, 97), 2, accept([103, 97])),
     (rows(103, 97, 98), 2, refuse(14, 97)), (rows(105, 97, 99), 2, accept([105, 97])), (rows(105, 97, 97), 2, refuse(14, 99)), (rows(104, 96, 97), 2, accept([104, 96])),
     (rows(104, 33, 97, 97, 4), 4, accept([104, 33, 97, 97])), (rows(105, 97, 100, 97, 75), 4, accept([105, 97, 100, 97])), (rows(105, 97, 100, 97, 75), 0, refuse(5, 4)),
-    (rows(103, 97, 99, 97, 71), 4, accept([103, 97, 99, 97])), (rows(97, 97, 98), 255, refuse(13, 0)), (rows(104, flip(PATTERNS[97], 3), 98), 255, refuse(16, 1)),
-    (rows(104, 97, 98, stop=flip(STOP, 4)), 255, refuse(15, 37)),
+    (rows(103, 97, 99, 97, 71), 4, accept([103, 97, 99, 97])), (rows(97, 97, 98), MOST, refuse(13, 0)), (rows(104, flip(PATTERNS[97], 3), 98), MOST, refuse(16, 1)),
+    (rows(104, 97, 98, stop=flip(STOP, 4)), MOST, refuse(15, 37)),
 ], group="k")
 
 lists_table("k", "fnc2Lists", """
@@ -1243,7 +1283,7 @@ def traded(s, i, j):
     return cells
 
 
-TWELVE, LAST103, LAST206 = [105, 12, 34], [104, 1] + [33] * 102 + [2], [104, 1] + [33] * 205 + [2]
+TWELVE, LAST103, LAST206 = [105, 12, 34], [104, 1] + [1] * 102 + [2], [104, 1] + [1] * 205 + [2]
 entries = []
 for s, i, j, blocks in [
     (TWELVE, 1, 2, (105, 34, 12, 82)), (AIM, 1, 2, (104, 41, 33, 45, 45)), (AIM, 2, 3, (104, 33, 45, 41, 45)), (AIM, 1, 3, (104, 45, 41, 33, 45)), ([104, 33, 33], 1, 2, (104, 33, 33, 100)),
@@ -1262,13 +1302,13 @@ entries = []
 for shown, s, i, j, answer in [
     (None, TWELVE, 1, 2, refuse(14, 60)), (None, AIM, 1, 2, refuse(14, 37)), (None, AIM, 2, 3, refuse(14, 41)), (None, AIM, 1, 3, refuse(14, 21)), (None, [103, 0, 102], 1, 2, refuse(14, 102)),
     (None, [103, 102, 0], 1, 2, refuse(14, 101)),
-    # places 103 and 104, with check 74; 103 apart; 206 apart
-    ("104 ∷ 1 ∷ replicate 102 33 ++ (2 ∷ [])", LAST103, 103, 104, refuse(14, 2)),
-    ("104 ∷ 1 ∷ replicate 102 33 ++ (2 ∷ [])", LAST103, 1, 104, ("accept", 105, "104 ∷ 2 ∷ replicate 102 33 ++ (1 ∷ [])")),
-    ("104 ∷ 1 ∷ replicate 205 33 ++ (2 ∷ [])", LAST206, 1, 207, ("accept", 208, "104 ∷ 2 ∷ replicate 205 33 ++ (1 ∷ [])")),
+    # places 103 and 104, with check 3; 103 apart; 206 apart
+    ("104 ∷ 1 ∷ replicate 102 1 ++ (2 ∷ [])", LAST103, 103, 104, refuse(14, 2)),
+    ("104 ∷ 1 ∷ replicate 102 1 ++ (2 ∷ [])", LAST103, 1, 104, ("accept", 105, "104 ∷ 2 ∷ replicate 102 1 ++ (1 ∷ [])")),
+    ("104 ∷ 1 ∷ replicate 205 1 ++ (2 ∷ [])", LAST206, 1, 207, ("accept", 208, "104 ∷ 2 ∷ replicate 205 1 ++ (1 ∷ [])")),
 ]:
     short = answer if answer[0] == "refuse" else refuse(5, answer[1])
-    got = model.read(255, traded(s, i, j))
+    got = model.read(MOST, traded(s, i, j))
     left = s[:i] + [s[j]] + s[i + 1:j] + [s[i]] + s[j + 1:]
     assert got[:2] == answer[:2] and (got == answer if got[0] == "refuse" else got[2] == left), (s, i, j, got)
     assert model.read(0, traded(s, i, j)) == short, (s, i, j)
@@ -1280,6 +1320,140 @@ buffer; and an acceptance where the two places are 103 or 206 apart, or refusal 
 room. The sum moves by the difference of the two numbers times the distance of their places.
 """, entries, each=3)
 states("exchangings-hold", "map exchanges exchangings ≡ map threefold exchangings")
+
+# ================================================================ m. up to 4,000 symbols
+
+title("m. up to 4,000 symbols")
+entries = []
+for n, fits in ((0, False), (1, True), (255, True), (256, True), (3999, True), (4000, True), (4001, False), (65535, False)):
+    assert (model.draw(0, [106] * n) == refuse(13, 0)) == fits and (model.scan(0, [106] * n) == refuse(10, n)) != fits, n
+    entries.append("%d symbolsFit %s" % (n, str(fits).lower()))
+for size, fits in ((0, False), (24, False), (34, False), (35, True), (36, False), (46, True), (2828, False), (2829, True), (2830, False), (2839, False), (2840, True), (2841, False),
+                   (44013, True), (44023, False), (44024, True), (44025, False), (44034, False), (44035, False), (44036, False), (44046, False)):
+    assert (model.read(0, [2] * size) == refuse(11, 0)) == fits and (model.pack(0, [2] * size) == refuse(10, size)) != fits, size
+    entries.append("%d cellsFit %s" % (size, str(fits).lower()))
+table("m", "sizes", "Size", """
+By hand from request 4 of document 02, "The limit becomes 4,000 everywhere, rows 44,024 cells": which
+lengths of a list and of a row are possible.
+""", entries)
+states("sizes-hold", "map fits sizes ≡ map fitting sizes")
+
+# the label in set C is not in the table: it takes longer to compute
+for label in ([0x181] + [65] * 3999, P("Ć" + "0123456789" * 799 + "01234567")):
+    assert crate_answers([label]) == [model.encode(44024, label)] and model.encode(44024, label)[:2] == ("accept", 4000)
+table("m", "longest", "Example", """
+A label of 4,000 symbols, by hand: its row fits 44,024 cells. The cells are left out, so that this is
+quickly computed; the crate writes the row that model.py writes.
+""", ["Ɓ ∷ replicate 3999 65 into 44024 gives accept 4000 []"])
+states("longest-hold", "map (asked (briefly encode)) longest ≡ map given longest")
+
+entries = []
+for start, m, k in ((104, 33, 254), (104, 33, 255), (104, 33, 3999), (103, 0, 3999), (103, 1, 3999), (104, 99, 3999), (105, 102, 3998), (105, 102, 3999)):
+    check = (start + m * (k * (k + 1) // 2)) % 103
+    assert check == model.check_of([start] + [m] * k)
+    entries.append("(%d ∷ replicate %d %d) checks %d" % (start, k, m, check))
+assert 105 + 102 * (3999 * 4000 // 2) == 815796105
+table("m", "longChecks", "Checked", """
+Checks of a START and k equal numbers m, by hand: START + m·k(k+1)/2 modulo 103. The last has the
+largest sum of all, 815,796,105.
+""", entries)
+states("longChecks-hold", "map checkIn longChecks ≡ map rightCheck longChecks")
+
+entries = []
+for n, first, size in ((1, [1, 1], 7), (8, [1, 8], 16), (254, [1, 254], 355), (255, [1, 255], 356), (256, [2, 1, 0], 358), (257, [2, 1, 1], 360), (511, [2, 1, 255], 709), (512, [2, 2, 0], 710),
+                       (1000, [2, 3, 232], 1381), (3999, [2, 15, 159], 5505), (4000, [2, 15, 160], 5506)):
+    got = model.pack(ROOM, [0] * (11 * n + 24))
+    assert got[1] == size and got[2][:len(first)] == first and size == len(first) + -(-(11 * n + 24) // 8)
+    entries.append("%d packedAfter %s long %d" % (n, listed(first), size))
+table("m", "heads", "Headed", """
+By hand from request 4, "Up to 255 symbols are still packed as version 1 … more as version 2": the
+first bytes of the record of n symbols, and the record's length.
+""", entries)
+states("heads-hold", "map headed heads ≡ map begun heads")
+
+
+def both_shown(job, cases):
+    """By hand; each input and each accepted output is a pair: how it is shown, and its elements."""
+    entries = []
+    for given, room, answer in cases:
+        want = answer if answer[0] == "refuse" else accept(answer[1])
+        entries.append(held_to(job, *given, room, want, lambda a: plain_answer(a, lambda o: answer[0])))
+    return entries
+
+
+ZEROS, ONE_BITS, BYTES = shown_equal(2840, 0), shown_equal(2840, 1), shown_times(355, "11010010")
+OF_BYTES = ahead([2, 1, 0], ("replicate 355 0xD2", [0xD2] * 355))
+LEFT_OVER = then(shown_times(356, "11010010"), shown_cells("101"))   # 257 symbols, five spare bits
+OF_LEFT_OVER = ahead([2, 1, 1], then(("replicate 356 0xD2", [0xD2] * 356), ("0xA0 ∷ []", [0xA0])))
+examples_table("m", "secondPackings", "pack", """
+Records of version 2, by hand from request 4: rows of 256 and 257 symbols. At 256
+there is no spare bit, at 257 there are five.
+""", both_shown("pack", [
+    (ZEROS, 358, ahead([2, 1, 0], shown_equal(355, 0))), (ONE_BITS, 358, ahead([2, 1, 0], shown_equal(355, 255))), (BYTES, ROOM, OF_BYTES), (BYTES, 357, refuse(5, 358)), (BYTES, 356, refuse(5, 358)),
+    (BYTES, 0, refuse(5, 358)), (LEFT_OVER, 360, OF_LEFT_OVER), (LEFT_OVER, 359, refuse(5, 360)), (shown_equal(2851, 1), 360, ahead([2, 1, 1], then(shown_equal(356, 255), ("0xE0 ∷ []", [0xE0])))),
+    (then(shown_equal(2839, 0), shown_list(2)), 0, refuse(11, 2839)), (shown_equal(2841, 2), 0, refuse(10, 2841)),
+]))
+
+cases = [
+    # under 3 bytes, a count up to 255, a count above 4,000: each with 0, whatever the length
+    (shown_list(2), 0, refuse(20, 1)), *[(shown_list(*x), 0, refuse(22, 0)) for x in (
+        (2, 0), (2, 1), (2, 15), (2, 255), (2, 0, 0), (2, 0, 1), (2, 0, 254), (2, 0, 255), (2, 15, 161), (2, 16, 0), (2, 160, 15), (2, 255, 255))],
+    (ahead([2, 0, 1], shown_equal(5, 0)), 35, refuse(22, 0)), (ahead([2, 0, 255], shown_equal(354, 0)), ROOM, refuse(22, 0)), (ahead([2, 0, 1], shown_equal(355, 0)), ROOM, refuse(22, 0)),
+    (ahead([2, 0, 0], shown_equal(3, 0)), ROOM, refuse(22, 0)), (ahead([2, 15, 161], shown_equal(5505, 0)), ROOM, refuse(22, 0)),
+    # the length needed
+    *[(shown_list(*x), 0, refuse(22, size)) for *x, size in (
+        (2, 1, 0, 358), (2, 1, 1, 360), (2, 1, 255, 709), (2, 2, 0, 710), (2, 15, 159, 5505), (2, 15, 160, 5506), (2, 1, 0xD0, 644))],
+    (ahead([2, 1, 0], shown_equal(354, 0)), ROOM, refuse(22, 358)), (ahead([2, 1, 0], shown_equal(356, 0)), ROOM, refuse(22, 358)), (ahead([1, 1, 0], shown_equal(355, 0)), ROOM, refuse(22, 7)),
+    (ahead([2, 1, 1], shown_equal(356, 255)), ROOM, refuse(22, 360)), (ahead([2, 1, 1], shown_equal(358, 255)), 0, refuse(22, 360)), (ahead([2, 15, 160], shown_equal(5502, 0)), ROOM, refuse(22, 5506)),
+    # another version, before its count
+    *[(shown_list(*x), ROOM, refuse(21, x[0])) for x in ((0, 1), (3, 1), (3, 9), (3, 1, 0), (255, 15, 161))], (ahead([3, 1, 0], shown_equal(355, 0)), ROOM, refuse(21, 3)),
+    # accepted, and too short a buffer
+    (ahead([2, 1, 0], shown_equal(355, 0)), 2840, ZEROS), (ahead([2, 1, 0], shown_equal(355, 255)), 2840, ONE_BITS), (OF_BYTES, ROOM, BYTES), (OF_BYTES, 2839, refuse(5, 2840)),
+    (OF_LEFT_OVER, 2851, LEFT_OVER), (OF_LEFT_OVER, 2850, refuse(5, 2851)),
+    # each spare bit alone, all of them, and the lowest bit that is not spare
+    *[(ahead([2, 1, 1], then(shown_equal(356, 0), shown_list(b))), ROOM, refuse(23, 359)) for b in (1, 2, 4, 8, 16, 31)], (ahead([2, 1, 1], shown_equal(357, 255)), 0, refuse(23, 359)),
+    (ahead([2, 1, 1], then(shown_equal(356, 0), shown_list(32))), 2851, then(shown_equal(2850, 0), shown_list(1))),
+]
+examples_table("m", "secondUnpackings", "unpack", """
+By hand from request 4: "21 now means neither 1 nor 2; 22 also for that small count, for a count
+above 4,000 and for a version 2 record under 3 bytes, each with 0". Among the counts are 256 and
+4,000 with their bytes the wrong way round.
+""", both_shown("unpack", cases))
+
+entries = []
+FAR_LIST = ("104 ∷ replicate 3999 0", [104] + [0] * 3999)   # check 1
+for i, m, answer in [
+    (412, 102, ("accept", 4000, "104 ∷ replicate 411 0 ++ (102 ∷ replicate 3587 0)")), (3914, 65, ("accept", 4000, "104 ∷ replicate 3913 0 ++ (65 ∷ replicate 85 0)")),
+    (3913, 65, refuse(14, 39)), (3915, 65, refuse(14, 66)), (3999, 1, refuse(14, 86)), (4000, 2, refuse(14, 1)), (3914, 103, refuse(13, 3914)),
+]:
+    s, cells = FAR_LIST[1], good(FAR_LIST[1])
+    cells[11 * i:11 * i + 11] = [int(d) for d in PATTERNS[m]]
+    got = model.read(MOST, cells)
+    assert got[:2] == answer[:2] and (got == answer if got[0] == "refuse" else got[2] == s[:i] + [m] + s[i + 1:]), (i, m, got)
+    entries.append("(%s) at %d drawn %d gives %s" % (FAR_LIST[0], i, m, "refuse %d %d" % answer[1:] if answer[0] == "refuse" else "accept %d (%s)" % answer[1:]))
+table("m", "farRedrawings", "Redrawn", """
+By hand from request 4, "demand 3's places become all multiples of 103, up to 3,914": one block of a
+row of 4,000 symbols drawn over, by `verdict` alone.
+""", entries)
+states("farRedrawings-hold", "map judged farRedrawings ≡ map judgement farRedrawings")
+
+entries = []
+FAR_PAIR = ("104 ∷ 1 ∷ replicate 3913 0 ++ (2 ∷ replicate 84 0)", [104, 1] + [0] * 3913 + [2] + [0] * 84)   # check 4
+for i, j, answer in [
+    (1, 3915, ("accept", 4000, "104 ∷ 2 ∷ replicate 3913 0 ++ (1 ∷ replicate 84 0)")), (1, 310, ("accept", 4000, "104 ∷ 0 ∷ replicate 308 0 ++ (1 ∷ replicate 3604 0 ++ (2 ∷ replicate 84 0))")),
+    (1, 3914, refuse(14, 3)), (3914, 3915, refuse(14, 2)), (3915, 3999, refuse(14, 69)),
+]:
+    s, short = FAR_PAIR[1], answer if answer[0] == "refuse" else refuse(5, answer[1])
+    got = model.read(MOST, traded(s, i, j))
+    left = s[:i] + [s[j]] + s[i + 1:j] + [s[i]] + s[j + 1:]
+    assert got[:2] == answer[:2] and (got == answer if got[0] == "refuse" else got[2] == left) and model.read(0, traded(s, i, j)) == short, (i, j, got)
+    shown_answer = "refuse %d %d" % answer[1:] if answer[0] == "refuse" else "accept %d (%s)" % answer[1:]
+    entries.append("(%s) between %d and %d gives %s short refuse %d %d" % (FAR_PAIR[0], i, j, shown_answer, *short[1:]))
+table("m", "farExchangings", "Between", """
+By hand, two blocks of a row of 4,000 symbols exchanged, 3,914 or 309 places apart or not, by
+`exchangedVerdict` alone.
+""", entries)
+states("farExchangings-hold", "map settledBetween farExchangings ≡ map foretold farExchangings")
 
 # ================================================================ the files
 
@@ -1300,7 +1474,7 @@ use Rattle.helpers.specs.Answers.{if_then_else_, Answer, refuse, accept, number
 use Rattle.paper.specs.Iso15417.{points, check, count, row}
 use Rattle.paper.specs.Crate.{À, Ɓ, Ć, Parsed, symbols, parse}
 use Rattle.paper.specs.Settle.{settle, inside}
-use Rattle.paper.specs.Jobs.{encode, encodeWithFNC2, draw, read, spell, scan, pack, unpack}
+use Rattle.paper.specs.Jobs.{possible, possibleRow, encode, encodeWithFNC2, draw, read, spell, scan, head, pack, recordLength, unpack}
 use Rattle.paper.specs.Labels.{Label, _⇒_}
 use Rattle.paper.specs.Damage.{redrawn, verdict, flipped, flippedVerdict, exchanged, exchangedVerdict}
 use Rattle.paper.proofs.Computes.{settle-computes, chars-computes, rules-computes, damage-computes}
@@ -1373,6 +1547,10 @@ infix 15 _flippedAt_gives_
 infix 15 _exchanging_with_draws_
 infix 15 _between_and_gives_short_
 infix 15 _firstAt_gives_
+infix 15 _symbolsFit_
+infix 15 _cellsFit_
+infix 15 _checks_
+infix 15 _packedAfter_long_
 -- a job's input, the number of elements of the lent buffer, and the answer
 pub data Example : Type 0 where
   _into_gives_ : List ℕ → ℕ → Answer → Example
@@ -1382,6 +1560,14 @@ asked job (x into room gives a) = job room x
 
 unfoldable pub given : Example → Answer
 given (x into room gives a) = a
+
+-- an answer without the list that is written
+unfoldable pub brief : Answer → Answer
+brief (refuse k m) = refuse k m
+brief (accept n out) = accept n []
+
+unfoldable pub briefly : (ℕ → List ℕ → Answer) → ℕ → List ℕ → Answer
+briefly job room x = brief (job room x)
 
 -- a label, its symbols, its check, and what a scanner sends for it
 pub data Published : Type 0 where
@@ -1394,12 +1580,12 @@ unfoldable pub printedAs : Published → Parsed × ℕ × Answer
 printedAs (x is s checked c sends b) = (symbols s, c, accept (length (points b)) (points b))
 
 -- a label with ź that the crate accepts, the place of its first ź, and document 01's answer: the
--- crate's row, or refusal 4 if that row has more than 255 symbols
+-- crate's row, or refusal 4 if that row has more than 4,000 symbols
 pub data WithFNC2 : Type 0 where
   _firstAt_gives_ : List ℕ → ℕ → Answer → WithFNC2
 
 unfoldable pub answerOf : (ℕ → List ℕ → Answer) → WithFNC2 → Answer
-answerOf job (x firstAt i gives a) = job 2829 x
+answerOf job (x firstAt i gives a) = job 44024 x
 
 unfoldable pub ofCrate : WithFNC2 → Answer
 ofCrate (x firstAt i gives a) = a
@@ -1427,10 +1613,10 @@ those keeps [] = []
 those keeps (c ∷ cs) = (if keeps c then c ∷ [] else []) ++ those keeps cs
 
 unfoldable pub passing : Sweep → List ℕ
-passing (swept first rest place found) = those (λ c. passesAt place (encode 2829 (points first ++ (c ∷ points rest)))) tried
+passing (swept first rest place found) = those (λ c. passesAt place (encode 44024 (points first ++ (c ∷ points rest)))) tried
 
 unfoldable pub retires : Sweep → List ℕ
-retires (swept first rest place found) = those (λ c. retiresAt place (encode 2829 (points first ++ (c ∷ points rest)))) tried
+retires (swept first rest place found) = those (λ c. retiresAt place (encode 44024 (points first ++ (c ∷ points rest)))) tried
 
 unfoldable pub kept : Sweep → List ℕ
 kept (swept first rest place found) = found
@@ -1466,19 +1652,26 @@ pub data Redrawn : Type 0 where
   _at_drawn_gives_ : List ℕ → ℕ → ℕ → Answer → Redrawn
 
 unfoldable pub ruled : Redrawn → List Answer
-ruled (s at i drawn m gives a) = verdict s i m ∷ read 255 (redrawn i m (row s)) ∷ []
+ruled (s at i drawn m gives a) = verdict s i m ∷ read 4000 (redrawn i m (row s)) ∷ []
 
 unfoldable pub twice : Redrawn → List Answer
 twice (s at i drawn m gives a) = a ∷ a ∷ []
 
+-- the same by `verdict` alone, for a long list
+unfoldable pub judged : Redrawn → Answer
+judged (s at i drawn m gives a) = verdict s i m
+
+unfoldable pub judgement : Redrawn → Answer
+judgement (s at i drawn m gives a) = a
+
 -- a symbol list, the place of a cell of its row that is flipped, and what read answers then:
--- `flippedVerdict` must say the same, and so must `read` of the changed row, into 255 elements and
--- into none
+-- `flippedVerdict` must say the same, and so must `read` of the changed row, into 4,000 elements
+-- and into none
 pub data Flipped : Type 0 where
   _flippedAt_gives_ : List ℕ → ℕ → Answer → Flipped
 
 unfoldable pub flips : Flipped → List Answer
-flips (s flippedAt i gives a) = flippedVerdict s i ∷ read 255 (flipped i (row s)) ∷ read 0 (flipped i (row s)) ∷ []
+flips (s flippedAt i gives a) = flippedVerdict s i ∷ read 4000 (flipped i (row s)) ∷ read 0 (flipped i (row s)) ∷ []
 
 unfoldable pub thrice : Flipped → List Answer
 thrice (s flippedAt i gives a) = a ∷ a ∷ a ∷ []
@@ -1493,16 +1686,23 @@ trades (s exchanging i with j draws cs) = exchanged i j (row s)
 unfoldable pub traded : Exchange → List ℕ
 traded (s exchanging i with j draws cs) = cs
 
--- a symbol list, two of its data places, and what read answers to that row, into 255 elements and
+-- a symbol list, two of its data places, and what read answers to that row, into 4,000 elements and
 -- into none: `exchangedVerdict` must say the first
 pub data Between : Type 0 where
   _between_and_gives_short_ : List ℕ → ℕ → ℕ → Answer → Answer → Between
 
 unfoldable pub exchanges : Between → List Answer
-exchanges (s between i and j gives a short b) = exchangedVerdict s i j ∷ read 255 (exchanged i j (row s)) ∷ read 0 (exchanged i j (row s)) ∷ []
+exchanges (s between i and j gives a short b) = exchangedVerdict s i j ∷ read 4000 (exchanged i j (row s)) ∷ read 0 (exchanged i j (row s)) ∷ []
 
 unfoldable pub threefold : Between → List Answer
 threefold (s between i and j gives a short b) = a ∷ a ∷ b ∷ []
+
+-- the same by `exchangedVerdict` alone, for a long list
+unfoldable pub settledBetween : Between → Answer
+settledBetween (s between i and j gives a short b) = exchangedVerdict s i j
+
+unfoldable pub foretold : Between → Answer
+foretold (s between i and j gives a short b) = a
 
 -- a job, its input and the buffer lent to it; then the answer number, the second number and what
 -- the buffer holds after the call
@@ -1517,6 +1717,39 @@ called (calls job x buf k m out) = gave (job (length buf) x) buf
 
 unfoldable pub left : Buffer → ℕ × ℕ × List ℕ
 left (calls job x buf k m out) = (k, m, out)
+
+-- a number of symbols, or of cells, and whether a list, or a row, may have it
+pub data Size : Type 0 where
+  _symbolsFit_ : ℕ → Bool → Size
+  _cellsFit_ : ℕ → Bool → Size
+
+unfoldable pub fits : Size → Bool
+fits (n symbolsFit b) = possible n
+fits (n cellsFit b) = possibleRow n
+
+unfoldable pub fitting : Size → Bool
+fitting (n symbolsFit b) = b
+fitting (n cellsFit b) = b
+
+-- a symbol list and its check
+pub data Checked : Type 0 where
+  _checks_ : List ℕ → ℕ → Checked
+
+unfoldable pub checkIn : Checked → ℕ
+checkIn (s checks c) = check s
+
+unfoldable pub rightCheck : Checked → ℕ
+rightCheck (s checks c) = c
+
+-- a number of symbols, the first bytes of the record of such a row, and the record's length
+pub data Headed : Type 0 where
+  _packedAfter_long_ : ℕ → List ℕ → ℕ → Headed
+
+unfoldable pub headed : Headed → List ℕ × ℕ
+headed (n packedAfter h long k) = (head n, recordLength n)
+
+unfoldable pub begun : Headed → List ℕ × ℕ
+begun (n packedAfter h long k) = (h, k)
 
 '''
 

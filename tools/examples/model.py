@@ -1,7 +1,7 @@
-"""The seven jobs of document 01 as requests 1, 3 and 12 of document 02 change them, written from
+"""The seven jobs of document 01 as requests 1, 3, 4 and 12 of document 02 change them, written from
 those texts alone: not from the crate, nor from specs/. One exception: the Shift of request 1 was
 written with its definition in specs/ at hand, in another form (a look back at the number before).
-`encode_with_fnc2` is document 01's encode, before request 12.
+`encode_with_fnc2` is document 01's encode, before request 12, with the limit of request 4.
 
 Only the bar patterns come from elsewhere: from the crate's `CHARS`, as document 01 says. An answer
 is ("refuse", number, second) or ("accept", second, list). `room` is the number of elements of the
@@ -9,6 +9,9 @@ lent buffer.
 """
 import re
 
+MOST = 4000  # the limit: symbols of a list
+MOST_CELLS = 11 * MOST + 24
+MOST_OF_VERSION_1 = 255
 PATTERNS = []
 STOP = "1100011101011"
 START = {0xC0: 103, 0x181: 104, 0x106: 105}
@@ -103,7 +106,7 @@ def _encode(room, points, retired):
     for place, c in enumerate(points):
         if c in retired:
             return refuse(19, place)
-    if len(symbols) > 255:
+    if len(symbols) > MOST:
         return refuse(4, len(symbols))
     return into(room, len(symbols), cells_of(symbols))
 
@@ -118,7 +121,7 @@ def encode_with_fnc2(room, points):
 
 def _list(symbols):
     """Refusal 10 or 13 of a symbol list, or None."""
-    if not 1 <= len(symbols) <= 255:
+    if not 1 <= len(symbols) <= MOST:
         return refuse(10, len(symbols))
     if symbols[0] not in (103, 104, 105):
         return refuse(13, 0)
@@ -181,7 +184,7 @@ def scan(room, symbols):
 
 def _row(cells):
     """Refusal 10 or 11 of a row, or None."""
-    if len(cells) not in range(35, 2830, 11):
+    if len(cells) not in range(35, MOST_CELLS + 1, 11):
         return refuse(10, len(cells))
     for place, c in enumerate(cells):
         if c > 1:
@@ -218,23 +221,33 @@ def pack(room, cells):
         return no
     text = "".join(map(str, cells))
     text += "0" * (-len(text) % 8)
-    out = [1, (len(cells) - 24) // 11] + [int(text[i:i + 8], 2) for i in range(0, len(text), 8)]
+    n = (len(cells) - 24) // 11
+    out = [1, n] if n <= MOST_OF_VERSION_1 else [2, *n.to_bytes(2, "big")]
+    out += [int(text[i:i + 8], 2) for i in range(0, len(text), 8)]
     return into(room, len(out), out)
+
+
+def _count(record):
+    """The length of a record's head, and its count where its version may have it, or None."""
+    if record[0] == 1:
+        return 2, record[1] or None
+    n = int.from_bytes(record[1:3], "big")
+    return 3, n if len(record) >= 3 and MOST_OF_VERSION_1 < n <= MOST else None
 
 
 def unpack(room, record):
     if len(record) < 2:
         return refuse(20, len(record))
-    if record[0] != 1:
+    if record[0] not in (1, 2):
         return refuse(21, record[0])
-    n = record[1]
-    if n == 0:
+    head, n = _count(record)
+    if n is None:
         return refuse(22, 0)
     cells = 11 * n + 24
-    need = 2 + -(-cells // 8)
+    need = head + -(-cells // 8)
     if len(record) != need:
         return refuse(22, need)
-    text = "".join("{:08b}".format(b) for b in record[2:])
+    text = "".join("{:08b}".format(b) for b in record[head:])
     if "1" in text[cells:]:
         return refuse(23, len(record) - 1)
     return into(room, cells, [int(d) for d in text[:cells]])

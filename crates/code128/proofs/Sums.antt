@@ -15,15 +15,15 @@ unfolding check
 check-of-none [] h = refl
 check-of-none (x ∷ xs) h = absurd (omega arith)
 
--- the product of two bytes
-pub small : (a b : ℕ) → a ≤ 255 → b ≤ 255 → a * b ≤ 65025
+-- the product of a weight and a byte
+pub small : (a b : ℕ) → a ≤ 3999 → b ≤ 255 → a * b ≤ 1019745
 small a b ha hb = mul-le-mul ha hb
 
 -- A loop that has summed the places below i.
 pub record Summing (s : List ℕ) (sum i : ℕ) : Type 0 where
   pub some : 0 < i
   pub within : i ≤ length s
-  pub fits : sum ≤ 65025 * i
+  pub fits : sum ≤ 1019745 * i
   pub left : (sum + weighed i (drop i s)) % 103 ≡ check s
 
 pub summing-begin : {s : List ℕ} {v : ℕ} → 0 < length s → v ≡ getD s 0 0 → v ≤ 255 → Summing s v 1
@@ -31,7 +31,7 @@ unfolding check
 summing-begin {s = []} {v = v} h e b = absurd (not-suc-le-zero h)
 summing-begin {s = x ∷ xs} {v = v} h e b = record { some = omega arith; within = omega arith; fits = omega arith; left = rw e refl }
 
-pub summing-turn : {s : List ℕ} {sum w i v : ℕ} → Summing s sum i → w ≡ i → i < length s → i ≤ 255 → v ≡ getD s i 0 → v ≤ 255 → Summing s (sum + w * v) (i + 1)
+pub summing-turn : {s : List ℕ} {sum w i v : ℕ} → Summing s sum i → w ≡ i → i < length s → i ≤ 3999 → v ≡ getD s i 0 → v ≤ 255 → Summing s (sum + w * v) (i + 1)
 unfolding weighed
 summing-turn {s} {sum} {w} {i} {v} p weight h c e b =
     let turn : weighed i (drop i s) ≡ i * v + weighed (i + 1) (drop (i + 1) s) = rw (add-one i, e, drop-cons s i 0 h) refl in

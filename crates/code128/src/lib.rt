@@ -1,13 +1,14 @@
 // Code 128 after `src/sym/code128.rs` of barcoders 2.0.0: the patterns, the check, draw and encode.
 ghost use mathlib.Core.Path.{_≡_};
-ghost use Prim.Native.Nat.{_+_, _*_, _≤_};
+ghost use Prim.Native.Nat.{_+_, _*_, _≤_, min};
 ghost use lib.ListN.{length, take};
 ghost use lib.Seq.{sets};
 ghost use Rattle.helpers.specs.Answers.{Each, accept, into, Gave};
 ghost use Rattle.paper.specs.Iso15417.{check, cells, row};
-ghost use Rattle.paper.specs.Jobs.{SymbolList, encode, draw};
+ghost use Rattle.paper.specs.Jobs.{most, SymbolList, encode, draw};
 ghost use Rattle.helpers.specs.Numbers.{numberOf, secondOf};
 ghost use Rattle.code128.specs.Words.{words};
+ghost use Rattle.code128.specs.Listed.{withRow, Drawable, Listed};
 ghost use Rattle.code128.specs.Quads.{quads, lowBytes, spreadOf};
 ghost use Rattle.paper.proofs.Cells.{Number};
 use helpers::Answer;
@@ -22,12 +23,12 @@ pub const STOP: [u8; 11] = [1, 1, 0, 0, 0, 1, 1, 1, 0, 1, 0];
 // Termination sequence.
 pub const TERM: [u8; 2] = [1, 1];
 
-// The check of the first 256 numbers: a symbol list has no more. The START weighs 1, and the number
-// at place i weighs i.
+// The check of the first 4,000 numbers: a symbol list has no more. The START weighs 1, and the
+// number at place i weighs i.
 pub fn checksum_value(symbols: &[u8]) -> u8
-    ensures { λ r. ⌜ r ≡ check (take 256 (now (symbols .entry))) ⌝ }
+    ensures { λ r. ⌜ r ≡ check (take 4000 (now (symbols .entry))) ⌝ }
 {
-    let n = helpers::shorter(symbols.len(), 256);
+    let n = helpers::shorter(symbols.len(), 4000);
     if n < 1 {
         return 0;
     }
@@ -124,20 +125,57 @@ pub fn draw(symbols: &[u8], out: &mut [u8]) -> Answer
     write_row(symbols, out)
 }
 
-// Encode: code points to a row. Refusals 1, 2, 3, 19, 4, 5. What parses to its end has passed 1 and
-// 2: each code point with a number is a scalar value, and a START has two bytes.
-pub fn encode(text: &[u32], out: &mut [u8]) -> Answer
-    ensures { λ r. ⌜ Gave (encode (length (now (out .entry))) (now (text .entry))) (numberOf r) (secondOf r) (now (out .entry)) (now (out .exit)) ⌝ }
+// The symbols of a text at the front of a list: all tests of encode but that of the room, 1, 2, 3,
+// 19, 4. The list has room for as many symbols as there are code points, or as the limit allows.
+// What parses to its end has passed 1 and 2: each code point with a number is a scalar value, and a
+// START has two bytes.
+fn list_symbols(text: &[u32], list: &mut [u8]) -> Answer
+    requires { ⌜ min (length (now text)) most ≤ length (now list) ⌝ }
+    ensures { λ r. ⌜ Listed (now (text .entry)) r (now (list .exit)) ⌝ }
 {
-    let mut list = [0u8; 255];
-    match tokens::parse::parse(text, &mut list) {
+    match tokens::parse::parse(text, list) {
         Parsed::Stops(place) => tokens::stopped(text, place),
         Parsed::Retired(place) => Answer::Refused(Refusal::Retired, place),
         Parsed::Symbols(n) => {
-            if 255 < n {
+            if 4000 < n {
                 return Answer::Refused(Refusal::Symbols, n);
             }
-            write_row(&list[0..n], out)
+            Answer::Done(n)
+        }
+    }
+}
+
+// Draws what `list_symbols` has found, or hands on its refusal.
+fn draw_listed(found: Answer, list: &[u8], out: &mut [u8]) -> Answer
+    requires { ⌜ Drawable found (now list) ⌝ }
+    ensures { λ r. ⌜ Gave (into (length (now (out .entry))) (withRow found (now (list .entry)))) (numberOf r) (secondOf r) (now (out .entry)) (now (out .exit)) ⌝ }
+{
+    let Answer::Done(n) = found else {
+        return found;
+    };
+    write_row(&list[0..n], out)
+}
+
+// Encode: code points to a row. Refusals 1, 2, 3, 19, 4, 5. A list is cleared before it is used, so
+// a short text takes a short one: 255 symbols of set C are 509 code points.
+pub fn encode(text: &[u32], out: &mut [u8]) -> Answer
+    ensures { λ r. ⌜ Gave (encode (length (now (out .entry))) (now (text .entry))) (numberOf r) (secondOf r) (now (out .entry)) (now (out .exit)) ⌝ }
+{
+    match text.len() {
+        0..=128 => {
+            let mut list = [0u8; 128];
+            let found = list_symbols(text, &mut list);
+            draw_listed(found, &list, out)
+        }
+        129..=512 => {
+            let mut list = [0u8; 512];
+            let found = list_symbols(text, &mut list);
+            draw_listed(found, &list, out)
+        }
+        _ => {
+            let mut list = [0u8; 4000];
+            let found = list_symbols(text, &mut list);
+            draw_listed(found, &list, out)
         }
     }
 }

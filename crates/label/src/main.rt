@@ -16,8 +16,8 @@ struct State {
 
 // Writes the output out where it has no room for one more answer, so that `feed` can get on.
 fn relieve(out: &[u8], len: usize, used: usize) -> State
-    requires { ⌜ (used ≤ length (now out)) × (2840 ≤ length (now out)) ⌝ }
-    ensures { λ r. ⌜ (r .used) + 2840 ≤ length (now (out .entry)) ⌝ }
+    requires { ⌜ (used ≤ length (now out)) × (22560 ≤ length (now out)) ⌝ }
+    ensures { λ r. ⌜ (r .used) + 22560 ≤ length (now (out .entry)) ⌝ }
 {
     if used <= out.len() - lines::ANSWER {
         return State {
@@ -38,8 +38,8 @@ fn relieve(out: &[u8], len: usize, used: usize) -> State
 
 // Goes over one chunk; the output is written out as often as it is full.
 fn pump(chunk: &[u8], line: &mut [u8], len: usize, out: &mut [u8], used: usize) -> State
-    requires { ⌜ used + 2840 ≤ length (now out) ⌝ }
-    ensures { λ r. ⌜ (r .used) + 2840 ≤ length (now (out .entry)) ⌝ }
+    requires { ⌜ used + 22560 ≤ length (now out) ⌝ }
+    ensures { λ r. ⌜ (r .used) + 22560 ≤ length (now (out .entry)) ⌝ }
 {
     let mut at: usize = 0;
     let mut n = len;
@@ -64,8 +64,8 @@ fn pump(chunk: &[u8], line: &mut [u8], len: usize, out: &mut [u8], used: usize) 
 
 // Reads once and goes over what came. A read that fails ends the input.
 fn turn(chunk: &mut [u8], line: &mut [u8], len: usize, out: &mut [u8], used: usize) -> State
-    requires { ⌜ used + 2840 ≤ length (now out) ⌝ }
-    ensures { λ r. ⌜ (r .used) + 2840 ≤ length (now (out .entry)) ⌝ }
+    requires { ⌜ used + 22560 ≤ length (now out) ⌝ }
+    ensures { λ r. ⌜ (r .used) + 22560 ≤ length (now (out .entry)) ⌝ }
 {
     let got = libc::read(STDIN_FILENO, chunk);
     let n = io::count(got, chunk);
@@ -83,8 +83,8 @@ fn turn(chunk: &mut [u8], line: &mut [u8], len: usize, out: &mut [u8], used: usi
 // Reads to the input's end. A proved loop has to end, and nothing says that the input does: so it
 // counts its turns down, from a number that no run uses up.
 fn drain(chunk: &mut [u8], line: &mut [u8], out: &mut [u8]) -> State
-    requires { ⌜ 2840 ≤ length (now out) ⌝ }
-    ensures { λ r. ⌜ (r .used) + 2840 ≤ length (now (out .entry)) ⌝ }
+    requires { ⌜ 22560 ≤ length (now out) ⌝ }
+    ensures { λ r. ⌜ (r .used) + 22560 ≤ length (now (out .entry)) ⌝ }
 {
     let mut len: usize = 0;
     let mut used: usize = 0;
@@ -110,7 +110,7 @@ fn drain(chunk: &mut [u8], line: &mut [u8], out: &mut [u8]) -> State
 fn main() {
     let mut chunk = [0u8; 65536];
     let mut line = [0u8; lines::LINE];
-    let mut out = [0u8; 65536];
+    let mut out = [0u8; 88096]; // 65,536, and one answer
     let state = drain(&mut chunk, &mut line, &mut out);
     if !state.open {
         return;

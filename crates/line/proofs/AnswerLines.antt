@@ -41,10 +41,10 @@ line-drawn n cells e = rw (e, append-snoc)
 
 -- ---- what the call of encode gave
 
-pub gave-low : (a : Answer) → Low a → {num sec : ℕ} {buf row : List ℕ} → Gave a num sec buf row → (num < 10000) × (sec < 10000)
+pub gave-low : (top : ℕ) (a : Answer) → Low top a → top < 10000 → {num sec : ℕ} {buf row : List ℕ} → Gave a num sec buf row → (num < 10000) × (sec < 10000)
 unfolding number second
-gave-low (refuse k m) low g = (omega (arith, g .gave-number), omega (arith, g .gave-second))
-gave-low (accept n r) low g = (omega (arith, g .gave-number), omega (arith, g .gave-second))
+gave-low top (refuse k m) low h g = (omega (arith, g .gave-number), omega (arith, g .gave-second))
+gave-low top (accept n r) low h g = (omega (arith, g .gave-number), omega (arith, g .gave-second))
 
 -- no refusal has the number 0
 pub refused-number : (v : Code.Answer) {r : Refusal} {k : ℕ} → v ≡ Refused r k → 1 ≤ numberOf v
@@ -59,16 +59,16 @@ unfolding number second
 gave-refusal (refuse k m) h g = rw (g .gave-number, g .gave-second)
 gave-refusal (accept n r) h g = absurd (omega (arith, g .gave-number))
 
--- an acceptance with the number n: the row stands at the front of its buffer
-pub record Drawn (a : Answer) (n : ℕ) (row : List ℕ) : Type 0 where
-  pub limited : n ≤ 255
+-- an acceptance with the number n, at most `top`: the row stands at the front of its buffer
+pub record Drawn (top : ℕ) (a : Answer) (n : ℕ) (row : List ℕ) : Type 0 where
+  pub limited : n ≤ top
   pub clean : Each (λ c. c ≤ 1) (take (11 * n + 24) row)
   pub accepts : a ≡ accept n (take (11 * n + 24) row)
 
-pub drawn : (a : Answer) → Low a → {n : ℕ} {buf row : List ℕ} → Gave a 0 n buf row → Drawn a n row
+pub drawn : (top : ℕ) (a : Answer) → Low top a → {n : ℕ} {buf row : List ℕ} → Gave a 0 n buf row → Drawn top a n row
 unfolding number second after
-drawn (refuse k m) low g = absurd (omega (arith, g .gave-number))
-drawn (accept m r) low {n} {buf} {row} g =
+drawn top (refuse k m) low g = absurd (omega (arith, g .gave-number))
+drawn top (accept m r) low {n} {buf} {row} g =
     let count : n ≡ m = g .gave-second in
     let cells : take (11 * n + 24) row ≡ r = rw (g .gave-buffer) (take-at r (drop (length r) buf) (11 * n + 24) (omega arith)) in
     record { limited = omega arith; clean = rw cells (low .2); accepts = rw (cells, count) }

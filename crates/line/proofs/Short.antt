@@ -1,4 +1,4 @@
--- A line has at most 2,048 numbers, and what it gives has at most 2,840 bytes.
+-- A line has at most 2,048 numbers, and what it gives has at most 22,560 bytes.
 -- Assumes nothing.
 use Prim.Native.Nat.{ℕ, zero, suc, _+_, _*_, _≤_}
 use mathlib.Core.Path.{_≡_, refl}
@@ -64,18 +64,18 @@ line-few (c ∷ cs) = long-case (leb (length (c ∷ cs)) 4096) refl
 
 -- ---- how many bytes
 
-answer-line-short : (a : Answer) → Low a → length (answerLine a) ≤ 2839
+answer-line-short : (top : ℕ) (a : Answer) → Low top a → top ≤ 2048 → length (answerLine a) ≤ 22559
 unfolding answerLine
-answer-line-short (refuse k m) h =
+answer-line-short top (refuse k m) h l =
     omega (arith, length-append (decimal k) (32 ∷ decimal m), decimal-few 3 k (omega arith), decimal-few 3 m (omega arith))
-answer-line-short (accept n r) h =
-    omega (arith, length-append (decimal 0 ++ (32 ∷ decimal n)) (32 ∷ map (λ c. 48 + c) r), length-append (decimal 0) (32 ∷ decimal n), length-map r (λ c. 48 + c), decimal-few 3 0 (omega arith), decimal-few 3 n (omega arith))
+answer-line-short top (accept n r) h l =
+    omega (arith, length-append (decimal 0 ++ (32 ∷ decimal n)) (32 ∷ map (λ c. 48 + c) r), length-append (decimal 0) (32 ∷ decimal n), length-map r (λ c. 48 + c), decimal-few 0 0 (omega arith), decimal-few 3 n (omega arith))
 
-content-short : (f : Content) → Few 4097 f → length (contentLine f) ≤ 2839
-unfolding contentLine
-content-short (codePoints x) h = answer-line-short (encode (rowLength most) x) (encode-low (rowLength most) x (omega arith))
+content-short : (f : Content) → Few 4097 f → length (contentLine f) ≤ 22559
+unfolding contentLine rowLength most
+content-short (codePoints x) h = answer-line-short (length x) (encode (rowLength most) x) (encode-low (rowLength most) x (omega arith) (omega arith)) (omega arith)
 content-short otherForm h = omega arith
 
-pub line-short : (line : List ℕ) → length (lineOut line) ≤ 2840
+pub line-short : (line : List ℕ) → length (lineOut line) ≤ 22560
 unfolding lineOut
 line-short line = omega (arith, length-append (contentLine (contentOf line)) (10 ∷ []), content-short (contentOf line) (line-few line))

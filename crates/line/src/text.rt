@@ -87,16 +87,38 @@ fn write_row(n: usize, cells: &[u8], out: &mut [u8]) -> usize
     write_line(&head[0..end], cells, out)
 }
 
-// Writes what a line's code points give: encode's answer, lent room for any row.
-pub(crate) fn answer_points(text: &[u32], out: &mut [u8]) -> usize
-    requires { ⌜ length (now text) ≤ 2048 ⌝ }
+// Writes what a line's code points give: encode's answer, by way of a row with room for as many
+// symbols as there are code points.
+fn answer_by(text: &[u32], row: &mut [u8], out: &mut [u8]) -> usize
+    requires { ⌜ (length (now text) ≤ 2048) × (rowLength (length (now text)) ≤ length (now row)) ⌝ }
     ensures { λ r. ⌜ Wrote (answerLine (encode (rowLength most) (now (text .entry))) ++ (10 ∷ [])) r (now (out .entry)) (now (out .exit)) ⌝ }
 {
-    let mut row = [0u8; 2829];
-    let answer = code128::encode(text, &mut row);
+    let answer = code128::encode(text, row);
     let Answer::Done(n) = answer else {
         return write_refusal(answer.number() as usize, answer.second(), out);
     };
     let cells = 11 * n + 24;
     write_row(n, &row[0..cells], out)
+}
+
+// Writes what a line's code points give: encode's answer, lent room for any row of so many. The row
+// is cleared before it is used, so a short text takes a short one.
+pub(crate) fn answer_points(text: &[u32], out: &mut [u8]) -> usize
+    requires { ⌜ length (now text) ≤ 2048 ⌝ }
+    ensures { λ r. ⌜ Wrote (answerLine (encode (rowLength most) (now (text .entry))) ++ (10 ∷ [])) r (now (out .entry)) (now (out .exit)) ⌝ }
+{
+    match text.len() {
+        0..=128 => {
+            let mut row = [0u8; 1432];
+            answer_by(text, &mut row, out)
+        }
+        129..=512 => {
+            let mut row = [0u8; 5656];
+            answer_by(text, &mut row, out)
+        }
+        _ => {
+            let mut row = [0u8; 22552];
+            answer_by(text, &mut row, out)
+        }
+    }
 }

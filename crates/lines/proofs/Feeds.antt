@@ -20,7 +20,7 @@ use Rattle.lines.proofs.Splits.{holds-line, fed-then, fed-newline}
 
 -- ---- an answer in the part of the output from place u on
 
-pub answered : (line : List ℕ) {out part : List ℕ} {u r : ℕ} → u + 2840 ≤ length out → Wrote (lineOut line) r (midOf u (length out - u) out) part
+pub answered : (line : List ℕ) {out part : List ℕ} {u r : ℕ} → u + 22560 ≤ length out → Wrote (lineOut line) r (midOf u (length out - u) out) part
     → Stored (lineOut line) out u (putMid u (length out - u) out part) (u + r)
 answered line {out} {part} {u} {r} h w =
     let p = wrote-fits w (omega (arith, line-short line, mid-len u (length out) out (omega arith))) in
@@ -36,7 +36,7 @@ pub record Feeding (chunk : List ℕ) (at : ℕ) (line : List ℕ) (len : ℕ) (
   pub fed : Fed chunk at line len text i line′ n
   pub stores : Stored text out used out′ u
   pub fits : length text ≤ length out - used
-  pub most : length text ≤ 2840 * (i - at)
+  pub most : length text ≤ 22560 * (i - at)
   pub long : length out′ ≡ length out
 
 -- a buffer that holds a line is filled no further than it reaches
@@ -57,7 +57,7 @@ feeding-begin e = record { text = []; fed = cut-none e; stores = record { stored
 
 module _ {chunk line out line′ out′ : List ℕ} {at len used i n u : ℕ} (p : Feeding chunk at line len out used i line′ n out′ u) where
   -- to a newline, and what the line gives
-  pub feeding-turn : {line″ out″ : List ℕ} {k m v : ℕ} → u + 2840 ≤ length out′ → Fed chunk i line′ n [] k line″ m → k < length chunk → getD chunk k 0 ≡ 10
+  pub feeding-turn : {line″ out″ : List ℕ} {k m v : ℕ} → u + 22560 ≤ length out′ → Fed chunk i line′ n [] k line″ m → k < length chunk → getD chunk k 0 ≡ 10
       → Stored (lineOut (take m line″)) out′ u out″ v → Feeding chunk at line len out used (k + 1) line″ 0 out″ v
   feeding-turn {line″} {out″} {k} {m} {v} room g h e s =
       let answer = lineOut (take m line″) in
@@ -79,7 +79,7 @@ module _ {chunk line out line′ out′ : List ℕ} {at len used i n u : ℕ} (p
   feeding-done h = record { feeds-text = p .text; feeds-fed = p .fed; feeds-stored = p .stores; feeds-room = p .fits; feeds-on = λ l r. omega arith }
 
   -- no room for one more
-  pub feeding-full : length out′ < u + 2840 → Feeds chunk at line len out used i line′ n out′ u
+  pub feeding-full : length out′ < u + 22560 → Feeds chunk at line len out used i line′ n out′ u
   feeding-full h =
       record { feeds-text = p .text; feeds-fed = p .fed; feeds-stored = p .stores; feeds-room = p .fits; feeds-on = λ l r. omega (arith, p .stores .next, p .most, p .long) }
 

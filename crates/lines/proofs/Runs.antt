@@ -23,7 +23,7 @@ filled {text} {out} {out′} {used} {used′} h fits p =
     rw (p .stored, sets-eq text out used (omega arith))
     (take-at (take used out ++ text) (drop (used + length text) out) used′ (omega (arith, p .next, length-append (take used out) text, length-take-le used out h)))
 
-end-short : (cur : List ℕ) → length (atEnd cur) ≤ 2840
+end-short : (cur : List ℕ) → length (atEnd cur) ≤ 22560
 unfolding atEnd
 end-short [] = omega arith
 end-short (c ∷ cs) = line-short (c ∷ cs)
@@ -31,7 +31,7 @@ end-short (c ∷ cs) = line-short (c ∷ cs)
 ended : (chunk cur input : List ℕ) {at : ℕ} → length chunk ≤ at → outputFrom cur (drop at chunk ++ input) ≡ outputFrom cur input
 ended chunk cur input h = rw (drop-of-length-le chunk h)
 
-pub run : {chunk line out rest : List ℕ} {at len used : ℕ} {chunks : List (List ℕ)} (cur : List ℕ) → Holds cur line len → used ≤ length out → 2840 ≤ length out
+pub run : {chunk line out rest : List ℕ} {at len used : ℕ} {chunks : List (List ℕ)} (cur : List ℕ) → Holds cur line len → used ≤ length out → 22560 ≤ length out
     → Run chunk at line len out used chunks rest → rest ≡ take used out ++ outputFrom cur (drop at chunk ++ joined chunks)
 unfolding joined outputFrom
 run cur h u l (calls-feed {out} {out′} {used} {used′} {chunks} f r) =
@@ -46,6 +46,6 @@ run cur h u l (calls-finish {chunk} {out} {out′} {r} e w) =
     rw (p .1) (sets-prefix out (atEnd cur) r (p .0) (omega (arith, end-short cur))) ∙ sym (ended chunk cur [] e)
 
 -- the whole
-pub run-whole : {line out all : List ℕ} {chunks : List (List ℕ)} → length line ≡ 4097 → 2840 ≤ length out → Run [] 0 line 0 out 0 chunks all → all ≡ output (joined chunks)
+pub run-whole : {line out all : List ℕ} {chunks : List (List ℕ)} → length line ≡ 4097 → 22560 ≤ length out → Run [] 0 line 0 out 0 chunks all → all ≡ output (joined chunks)
 unfolding output
 run-whole s l r = run [] (holds-none s) (omega arith) l r

@@ -23,11 +23,11 @@ pub record Fed (chunk : List ℕ) (at : ℕ) (line : List ℕ) (len : ℕ) (text
       → (cur′ : List ℕ) × Holds cur′ line′ len′ × ((rest : List ℕ) → outputFrom cur (drop at chunk ++ rest) ≡ text ++ outputFrom cur′ (drop at′ chunk ++ rest))
 
 -- The same where the text was stored into `out` from place `used` on. It gets on where `out` has
--- room for one more answer, which has at most 2,840 bytes.
+-- room for one more answer, which has at most 22,560 bytes.
 pub record Feeds (chunk : List ℕ) (at : ℕ) (line : List ℕ) (len : ℕ) (out : List ℕ) (used at′ : ℕ) (line′ : List ℕ) (len′ : ℕ) (out′ : List ℕ) (used′ : ℕ)
     : Type 0 where
   pub feeds-text : List ℕ
   pub feeds-fed : Fed chunk at line len feeds-text at′ line′ len′
   pub feeds-stored : Stored feeds-text out used out′ used′
   pub feeds-room : length feeds-text ≤ length out - used
-  pub feeds-on : at < length chunk → used + 2840 ≤ length out → at < at′
+  pub feeds-on : at < length chunk → used + 22560 ≤ length out → at < at′

@@ -7,14 +7,15 @@ use Rattle.paper.specs.Chars.{chars}
 use Rattle.paper.specs.Rules.{runs}
 use Rattle.paper.specs.Jobs.{encode, encodeWithFNC2, draw, read, spell, scan, pack, unpack}
 use Rattle.paper.specs.Labels.{answered, expected}
-use Rattle.paper.proofs.Examples.{examples-computes, elevens, joined, asked, given, parsedAs, printedAs, answerOf, ofCrate, retired, passing, retires}
-use Rattle.paper.proofs.Examples.{kept, threeJobs, threeAnswers, settles, settled, ruled, twice, flips, thrice, trades, traded, exchanges, threefold}
-use Rattle.paper.proofs.Examples.{called, left, unstarred, unstarredRecords, longest, order, published, publishedRows, crateChars, crateStop, crateWidths}
-use Rattle.paper.proofs.Examples.{crateBars, everyNumber, everySwitch, everyFunction, everyPair, foreignDigits, firstPoints, documented, randomly}
-use Rattle.paper.proofs.Examples.{randomlyWrong, checksOn, withFNC2, sweeps, readBack, readLengths, readBlocks, readWorn, readStops, readChecks, readLong}
-use Rattle.paper.proofs.Examples.{lists, badLists, drawShort, spellShort, scanShort, shiftEach, shiftBefore, shifting, packings, unpackings, settling}
-use Rattle.paper.proofs.Examples.{buffers, redrawings, flippings, fnc2Refused, fnc2Before, fnc2Beside, fnc2Swept, fnc2Rows, fnc2Lists, exchangedRows}
-use Rattle.paper.proofs.Examples.{exchangings}
+use Rattle.paper.proofs.Examples.{examples-computes, elevens, joined, asked, given, briefly, parsedAs, printedAs, answerOf, ofCrate, retired, passing}
+use Rattle.paper.proofs.Examples.{retires, kept, threeJobs, threeAnswers, settles, settled, ruled, twice, judged, judgement, flips, thrice, trades}
+use Rattle.paper.proofs.Examples.{traded, exchanges, threefold, settledBetween, foretold, called, left, fits, fitting, checkIn, rightCheck, headed, begun}
+use Rattle.paper.proofs.Examples.{unstarred, unstarredRecords, longRows, order, published, publishedRows, crateChars, crateStop, crateWidths, crateBars}
+use Rattle.paper.proofs.Examples.{everyNumber, everySwitch, everyFunction, everyPair, foreignDigits, firstPoints, documented, randomly, randomlyWrong}
+use Rattle.paper.proofs.Examples.{checksOn, withFNC2, sweeps, readBack, readLengths, readBlocks, readWorn, readStops, readChecks, readLong, lists}
+use Rattle.paper.proofs.Examples.{badLists, drawShort, spellShort, scanShort, shiftEach, shiftBefore, shifting, packings, unpackings, settling, buffers}
+use Rattle.paper.proofs.Examples.{redrawings, flippings, fnc2Refused, fnc2Before, fnc2Beside, fnc2Swept, fnc2Rows, fnc2Lists, exchangedRows, exchangings}
+use Rattle.paper.proofs.Examples.{sizes, longest, longChecks, heads, secondPackings, secondUnpackings, farRedrawings, farExchangings}
 
 pub unstarred-hold : map (asked encode) unstarred ≡ map given unstarred
 unfolding examples-computes
@@ -24,9 +25,9 @@ pub unstarredRecords-hold : map (asked unpack) unstarredRecords ≡ map given un
 unfolding examples-computes
 unstarredRecords-hold = refl
 
-pub longest-hold : map (asked encode) longest ≡ map given longest
+pub longRows-hold : map (asked encode) longRows ≡ map given longRows
 unfolding examples-computes
-longest-hold = refl
+longRows-hold = refl
 
 pub order-hold : map (asked encode) order ≡ map given order
 unfolding examples-computes
@@ -239,3 +240,35 @@ exchangedRows-hold = refl
 pub exchangings-hold : map exchanges exchangings ≡ map threefold exchangings
 unfolding examples-computes
 exchangings-hold = refl
+
+pub sizes-hold : map fits sizes ≡ map fitting sizes
+unfolding examples-computes
+sizes-hold = refl
+
+pub longest-hold : map (asked (briefly encode)) longest ≡ map given longest
+unfolding examples-computes
+longest-hold = refl
+
+pub longChecks-hold : map checkIn longChecks ≡ map rightCheck longChecks
+unfolding examples-computes
+longChecks-hold = refl
+
+pub heads-hold : map headed heads ≡ map begun heads
+unfolding examples-computes
+heads-hold = refl
+
+pub secondPackings-hold : map (asked pack) secondPackings ≡ map given secondPackings
+unfolding examples-computes
+secondPackings-hold = refl
+
+pub secondUnpackings-hold : map (asked unpack) secondUnpackings ≡ map given secondUnpackings
+unfolding examples-computes
+secondUnpackings-hold = refl
+
+pub farRedrawings-hold : map judged farRedrawings ≡ map judgement farRedrawings
+unfolding examples-computes
+farRedrawings-hold = refl
+
+pub farExchangings-hold : map settledBetween farExchangings ≡ map foretold farExchangings
+unfolding examples-computes
+farExchangings-hold = refl

@@ -8,8 +8,8 @@ use Rattle.paper.specs.Settle.{switched, moved, added, leftOver, settleF
 use Rattle.paper.specs.Chars.{chars, entry}
 use Rattle.paper.specs.Rules.{longer, runs, nameOf, written, message, leads, writes, sends, switches, isSHIFT, shifts, differencesIn, differences}
 use Rattle.paper.specs.Jobs.{most, possible, rowLength, symbolCount, possibleRow, parsed, encoder, encodeWithFNC2, notFNC2, encode, isStart, isData, wellFormed, ofList, draw, spell, scan, isCell, ofRow, fitsAt, withNumber, block, blocksFrom, looked, lastOf, wanted, read}
-use Rattle.paper.specs.Jobs.{bits, bytes, bytesFor, head, recordOf, pack, eight, unbytes, allZero, recordLength, versionOf, countOf, storedCells, unpack}
-use Rattle.paper.specs.Labels.{symbolsAndCheck, starred, expected, answered, shiftLabels, shiftExpected, shiftAnswered, retiredLabels}
+use Rattle.paper.specs.Jobs.{bits, bytes, bytesFor, head, recordOf, pack, eight, unbytes, allZero, recordLength, versionOf, headLength, countOf, countFits, storedCells, unpack}
+use Rattle.paper.specs.Labels.{symbolsAndCheck, starred, expected, answered, shiftLabels, shiftExpected, shiftAnswered, retiredLabels, unpackLabels, unpackExpected, unpackAnswered}
 use Rattle.paper.specs.Damage.{blocksOf, blockAt, over, redrawn, blind, acceptedIf, verdict, flipped, flippedVerdict, exchanged, exchangedList, exchangedVerdict}
 
 unfoldable pub iso15417-computes : Unit {0}
@@ -33,11 +33,11 @@ unfolding longer runs nameOf written message leads writes sends switches isSHIFT
 rules-computes = tt
 
 unfoldable pub jobs-computes : Unit {0}
-unfolding most possible rowLength symbolCount possibleRow parsed encoder encodeWithFNC2 notFNC2 encode isStart isData wellFormed ofList draw spell scan isCell ofRow fitsAt withNumber block blocksFrom looked lastOf wanted read bits bytes bytesFor head recordOf pack eight unbytes allZero recordLength versionOf countOf storedCells unpack crate-computes
+unfolding most possible rowLength symbolCount possibleRow parsed encoder encodeWithFNC2 notFNC2 encode isStart isData wellFormed ofList draw spell scan isCell ofRow fitsAt withNumber block blocksFrom looked lastOf wanted read bits bytes bytesFor head recordOf pack eight unbytes allZero recordLength versionOf headLength countOf countFits storedCells unpack crate-computes
 jobs-computes = tt
 
 unfoldable pub labels-computes : Unit {0}
-unfolding symbolsAndCheck starred expected answered shiftLabels shiftExpected shiftAnswered retiredLabels jobs-computes
+unfolding symbolsAndCheck starred expected answered shiftLabels shiftExpected shiftAnswered retiredLabels unpackLabels unpackExpected unpackAnswered jobs-computes
 labels-computes = tt
 
 unfoldable pub damage-computes : Unit {0}

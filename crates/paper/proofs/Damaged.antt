@@ -1,13 +1,12 @@
 -- Rows of which one block is redrawn: what read answers to them.
 -- Assumes nothing.
 use mathlib.Core.Path.{_≡_, refl, sym, ap, _∙_}
-use mathlib.Core.Logic.{_≢_, _↔_, _⊎_, inl, inr}
+use mathlib.Core.Logic.{_≢_, _↔_, inl, inr}
 use mathlib.Core.Bool.{Bool, true, false, _&&_}
 use mathlib.Core.List.{List, [], _∷_, _++_, append-assoc}
 use Prim.Native.Nat.{ℕ, zero, suc, _+_, _*_, _%_, _<_, _≤_}
 use native.Mathlib.Omega.{arith}
 use native.Mathlib.Nat.{add-zero, zero-add, add-suc, suc-add, eq-or-lt-of-le, le-refl}
-use native.Mathlib.Decide.{decLe}
 use lib.Dec.{leb, ltb, eqb}
 use lib.ListN.{List·getD-append, length, getD, set, length-append, length-set}
 use lib.Seq.{getD-at, take-add, drop-drop, set-at, set-out, set-append-left}
@@ -146,26 +145,19 @@ replaced room s a i m l h n = rw (over-cells (s ++ (check s ∷ [])) (row-number
 
 -- ---- where a row so damaged is accepted
 
-blind-places : (s : List ℕ) → length s ≤ 255 → (i m : ℕ) → fitsAt i m ≡ true → blind s i ≡ true → ((i ≡ 103) ⊎ (i ≡ 206)) × (i < length s) × (m ≤ 102)
+blind-places : (s : List ℕ) (i m : ℕ) → fitsAt i m ≡ true → blind s i ≡ true → (1 ≤ i) × (i % 103 ≡ 0) × (i < length s) × (m ≤ 102)
 unfolding blind fitsAt isData
-blind-places s h zero m e b = true-not-false (sym b)
-blind-places s h (suc i) m e b =
+blind-places s zero m e b = true-not-false (sym b)
+blind-places s (suc i) m e b =
     let both = and-true (leb 1 (suc i) && ltb (suc i) (length s)) (eqb (suc i % 103) 0) b in
     let within : suc i < length s = ltb-true (suc i) (length s) (and-true (leb 1 (suc i)) (ltb (suc i) (length s)) (both .0) .1) in
-    let multiple : suc i % 103 ≡ 0 = eqb-true (suc i % 103) 0 (both .1) in
-    let place : (suc i ≡ 103) ⊎ (suc i ≡ 206) = elim (decLe (suc i) 103) [ yes l ↦ inl (omega arith) | no l ↦ inr (omega arith) ] in
-    (place, within, leb-true m 102 e)
+    (omega arith, eqb-true (suc i % 103) 0 (both .1), within, leb-true m 102 e)
 
-places-multiple : (i : ℕ) → (i ≡ 103) ⊎ (i ≡ 206) → (1 ≤ i) × (i % 103 ≡ 0)
-places-multiple i (inl e) = omega arith
-places-multiple i (inr e) = omega arith
-
-places-blind : (s : List ℕ) (i m : ℕ) → ((i ≡ 103) ⊎ (i ≡ 206)) × (i < length s) × (m ≤ 102) → (fitsAt i m ≡ true) × (blind s i ≡ true)
+places-blind : (s : List ℕ) (i m : ℕ) → (1 ≤ i) × (i % 103 ≡ 0) × (i < length s) × (m ≤ 102) → (fitsAt i m ≡ true) × (blind s i ≡ true)
 unfolding blind fitsAt isData
-places-blind s zero m p = absurd (omega (arith, places-multiple zero (p .0)))
+places-blind s zero m p = absurd (omega arith)
 places-blind s (suc i) m p =
-    let d = places-multiple (suc i) (p .0) in
-    (le-leb m 102 (p .2), rw (le-leb 1 (suc i) (d .0), lt-ltb (suc i) (length s) (p .1)) (eq-eqb (suc i % 103) 0 (d .1)))
+    (le-leb m 102 (p .3), rw (le-leb 1 (suc i) (p .0), lt-ltb (suc i) (length s) (p .2)) (eq-eqb (suc i % 103) 0 (p .1)))
 
 both-true : (room k j : ℕ) (t : List ℕ) (f b : Bool) → Accepted (into room (if f then acceptedIf b t else refuse k j)) → (f ≡ true) × (b ≡ true)
 unfolding into acceptedIf ask _then_
@@ -174,9 +166,9 @@ both-true room k j t true false r = absurd r
 both-true room k j t false b r = absurd r
 
 pub replaced-accepted : (room : ℕ) (s : List ℕ) → SymbolList s → length s ≤ room → (i m : ℕ) → i ≤ length s → m < 106 → m ≢ getD (blocksOf s) i 0
-    → Accepted (read room (redrawn i m (row s))) ↔ (((i ≡ 103) ⊎ (i ≡ 206)) × (i < length s) × (m ≤ 102))
-unfolding verdict acceptedIf ask _then_ most
+    → Accepted (read room (redrawn i m (row s))) ↔ ((1 ≤ i) × (i % 103 ≡ 0) × (i < length s) × (m ≤ 102))
+unfolding verdict acceptedIf ask _then_
 replaced-accepted room s a fits i m l h n = rw (replaced room s a i m l h n) (
-  (λ r. let both = both-true room 13 i (set s i m) (fitsAt i m) (blind s i) r in blind-places s (a .size) i m (both .0) (both .1)),
+  (λ r. let both = both-true room 13 i (set s i m) (fitsAt i m) (blind s i) r in blind-places s i m (both .0) (both .1)),
   (λ p. let both = places-blind s i m p in rw (both .0, both .1, into-room room (length (set s i m)) (set s i m) (rw (length-set s i m) fits)) tt),
 )

@@ -126,7 +126,7 @@ encoded room x n r e =
     let (s, p, count, size, made, fits) = encodeWithFNC2-exactly room x n r .0 e in
     record { list = s; parses = p; proper = record { form = parse-form x s p; size = rw count at size }; counts = count; draws = made }
 
-pub encode-size : (room : ℕ) (x : List ℕ) (n : ℕ) (r : List ℕ) → encode room x ≡ accept n r → (length r ≡ 11 * (n + 1) + 13) × (n ≤ 255)
+pub encode-size : (room : ℕ) (x : List ℕ) (n : ℕ) (r : List ℕ) → encode room x ≡ accept n r → (length r ≡ 11 * (n + 1) + 13) × (n ≤ 4000)
 unfolding most
 encode-size room x n r e =
     let a = encoded room x n r (encode-accepted room x e .1) in
@@ -157,13 +157,13 @@ spells room s n x e =
     let (proper, made, fits) = symbol-list room s (accept (length (spelled s)) (spelled s)) e in
     (proper, cc, cc, fits)
 
-pub spelled-most : (s : List ℕ) → SymbolList s → length (spelled s) ≤ 509
+pub spelled-most : (s : List ℕ) → SymbolList s → length (spelled s) ≤ 7999
 unfolding most
 spelled-most [] a = absurd (a .form)
 spelled-most (m ∷ ms) a = omega (arith, spelled-short m ms)
 
 pub spell-encodes : (room : ℕ) (s : List ℕ) (n : ℕ) (x : List ℕ) → spell room s ≡ accept n x
-    → (encodeWithFNC2 (length (row s)) x ≡ accept (length s) (row s)) × (inside x ≡ false) × (n ≡ length x) × (n ≤ 509)
+    → (encodeWithFNC2 (length (row s)) x ≡ accept (length s) (row s)) × (inside x ≡ false) × (n ≡ length x) × (n ≤ 7999)
 spell-encodes room s n x e =
     let (proper, made, count, fits) = spells room s n x e in
     let short = spelled-most s proper in (

@@ -15,7 +15,7 @@ use Rattle.helpers.specs.Answers.{if_then_else_, Answer, refuse, accept, number
 use Rattle.paper.specs.Iso15417.{points, check, count, row}
 use Rattle.paper.specs.Crate.{À, Ɓ, Ć, Parsed, symbols, parse}
 use Rattle.paper.specs.Settle.{settle, inside}
-use Rattle.paper.specs.Jobs.{encode, encodeWithFNC2, draw, read, spell, scan, pack, unpack}
+use Rattle.paper.specs.Jobs.{possible, possibleRow, encode, encodeWithFNC2, draw, read, spell, scan, head, pack, recordLength, unpack}
 use Rattle.paper.specs.Labels.{Label, _⇒_}
 use Rattle.paper.specs.Damage.{redrawn, verdict, flipped, flippedVerdict, exchanged, exchangedVerdict}
 use Rattle.paper.proofs.Computes.{settle-computes, chars-computes, rules-computes, damage-computes}
@@ -88,6 +88,10 @@ infix 15 _flippedAt_gives_
 infix 15 _exchanging_with_draws_
 infix 15 _between_and_gives_short_
 infix 15 _firstAt_gives_
+infix 15 _symbolsFit_
+infix 15 _cellsFit_
+infix 15 _checks_
+infix 15 _packedAfter_long_
 -- a job's input, the number of elements of the lent buffer, and the answer
 pub data Example : Type 0 where
   _into_gives_ : List ℕ → ℕ → Answer → Example
@@ -97,6 +101,14 @@ asked job (x into room gives a) = job room x
 
 unfoldable pub given : Example → Answer
 given (x into room gives a) = a
+
+-- an answer without the list that is written
+unfoldable pub brief : Answer → Answer
+brief (refuse k m) = refuse k m
+brief (accept n out) = accept n []
+
+unfoldable pub briefly : (ℕ → List ℕ → Answer) → ℕ → List ℕ → Answer
+briefly job room x = brief (job room x)
 
 -- a label, its symbols, its check, and what a scanner sends for it
 pub data Published : Type 0 where
@@ -109,12 +121,12 @@ unfoldable pub printedAs : Published → Parsed × ℕ × Answer
 printedAs (x is s checked c sends b) = (symbols s, c, accept (length (points b)) (points b))
 
 -- a label with ź that the crate accepts, the place of its first ź, and document 01's answer: the
--- crate's row, or refusal 4 if that row has more than 255 symbols
+-- crate's row, or refusal 4 if that row has more than 4,000 symbols
 pub data WithFNC2 : Type 0 where
   _firstAt_gives_ : List ℕ → ℕ → Answer → WithFNC2
 
 unfoldable pub answerOf : (ℕ → List ℕ → Answer) → WithFNC2 → Answer
-answerOf job (x firstAt i gives a) = job 2829 x
+answerOf job (x firstAt i gives a) = job 44024 x
 
 unfoldable pub ofCrate : WithFNC2 → Answer
 ofCrate (x firstAt i gives a) = a
@@ -142,10 +154,10 @@ those keeps [] = []
 those keeps (c ∷ cs) = (if keeps c then c ∷ [] else []) ++ those keeps cs
 
 unfoldable pub passing : Sweep → List ℕ
-passing (swept first rest place found) = those (λ c. passesAt place (encode 2829 (points first ++ (c ∷ points rest)))) tried
+passing (swept first rest place found) = those (λ c. passesAt place (encode 44024 (points first ++ (c ∷ points rest)))) tried
 
 unfoldable pub retires : Sweep → List ℕ
-retires (swept first rest place found) = those (λ c. retiresAt place (encode 2829 (points first ++ (c ∷ points rest)))) tried
+retires (swept first rest place found) = those (λ c. retiresAt place (encode 44024 (points first ++ (c ∷ points rest)))) tried
 
 unfoldable pub kept : Sweep → List ℕ
 kept (swept first rest place found) = found
@@ -181,19 +193,26 @@ pub data Redrawn : Type 0 where
   _at_drawn_gives_ : List ℕ → ℕ → ℕ → Answer → Redrawn
 
 unfoldable pub ruled : Redrawn → List Answer
-ruled (s at i drawn m gives a) = verdict s i m ∷ read 255 (redrawn i m (row s)) ∷ []
+ruled (s at i drawn m gives a) = verdict s i m ∷ read 4000 (redrawn i m (row s)) ∷ []
 
 unfoldable pub twice : Redrawn → List Answer
 twice (s at i drawn m gives a) = a ∷ a ∷ []
 
+-- the same by `verdict` alone, for a long list
+unfoldable pub judged : Redrawn → Answer
+judged (s at i drawn m gives a) = verdict s i m
+
+unfoldable pub judgement : Redrawn → Answer
+judgement (s at i drawn m gives a) = a
+
 -- a symbol list, the place of a cell of its row that is flipped, and what read answers then:
--- `flippedVerdict` must say the same, and so must `read` of the changed row, into 255 elements and
--- into none
+-- `flippedVerdict` must say the same, and so must `read` of the changed row, into 4,000 elements
+-- and into none
 pub data Flipped : Type 0 where
   _flippedAt_gives_ : List ℕ → ℕ → Answer → Flipped
 
 unfoldable pub flips : Flipped → List Answer
-flips (s flippedAt i gives a) = flippedVerdict s i ∷ read 255 (flipped i (row s)) ∷ read 0 (flipped i (row s)) ∷ []
+flips (s flippedAt i gives a) = flippedVerdict s i ∷ read 4000 (flipped i (row s)) ∷ read 0 (flipped i (row s)) ∷ []
 
 unfoldable pub thrice : Flipped → List Answer
 thrice (s flippedAt i gives a) = a ∷ a ∷ a ∷ []
@@ -208,16 +227,23 @@ trades (s exchanging i with j draws cs) = exchanged i j (row s)
 unfoldable pub traded : Exchange → List ℕ
 traded (s exchanging i with j draws cs) = cs
 
--- a symbol list, two of its data places, and what read answers to that row, into 255 elements and
+-- a symbol list, two of its data places, and what read answers to that row, into 4,000 elements and
 -- into none: `exchangedVerdict` must say the first
 pub data Between : Type 0 where
   _between_and_gives_short_ : List ℕ → ℕ → ℕ → Answer → Answer → Between
 
 unfoldable pub exchanges : Between → List Answer
-exchanges (s between i and j gives a short b) = exchangedVerdict s i j ∷ read 255 (exchanged i j (row s)) ∷ read 0 (exchanged i j (row s)) ∷ []
+exchanges (s between i and j gives a short b) = exchangedVerdict s i j ∷ read 4000 (exchanged i j (row s)) ∷ read 0 (exchanged i j (row s)) ∷ []
 
 unfoldable pub threefold : Between → List Answer
 threefold (s between i and j gives a short b) = a ∷ a ∷ b ∷ []
+
+-- the same by `exchangedVerdict` alone, for a long list
+unfoldable pub settledBetween : Between → Answer
+settledBetween (s between i and j gives a short b) = exchangedVerdict s i j
+
+unfoldable pub foretold : Between → Answer
+foretold (s between i and j gives a short b) = a
 
 -- a job, its input and the buffer lent to it; then the answer number, the second number and what
 -- the buffer holds after the call
@@ -233,48 +259,86 @@ called (calls job x buf k m out) = gave (job (length buf) x) buf
 unfoldable pub left : Buffer → ℕ × ℕ × List ℕ
 left (calls job x buf k m out) = (k, m, out)
 
+-- a number of symbols, or of cells, and whether a list, or a row, may have it
+pub data Size : Type 0 where
+  _symbolsFit_ : ℕ → Bool → Size
+  _cellsFit_ : ℕ → Bool → Size
+
+unfoldable pub fits : Size → Bool
+fits (n symbolsFit b) = possible n
+fits (n cellsFit b) = possibleRow n
+
+unfoldable pub fitting : Size → Bool
+fitting (n symbolsFit b) = b
+fitting (n cellsFit b) = b
+
+-- a symbol list and its check
+pub data Checked : Type 0 where
+  _checks_ : List ℕ → ℕ → Checked
+
+unfoldable pub checkIn : Checked → ℕ
+checkIn (s checks c) = check s
+
+unfoldable pub rightCheck : Checked → ℕ
+rightCheck (s checks c) = c
+
+-- a number of symbols, the first bytes of the record of such a row, and the record's length
+pub data Headed : Type 0 where
+  _packedAfter_long_ : ℕ → List ℕ → ℕ → Headed
+
+unfoldable pub headed : Headed → List ℕ × ℕ
+headed (n packedAfter h long k) = (head n, recordLength n)
+
+unfoldable pub begun : Headed → List ℕ × ℕ
+begun (n packedAfter h long k) = (h, k)
+
 -- ---- a. document 01's labels
 
--- "Labels on each side of the line", those without a star except the two longest, and the lines of
--- "The label program", all as document 01 prints them.
+-- "Labels on each side of the line", those without a star except those of 255 and 256 symbols, and
+-- the lines of "The label program", all as document 01 prints them.
 unfoldable pub unstarred : List Example
 unstarred =
-    (points "Ć1À" into 2829 gives refuse 3 2) ∷ (points "Ɓ\u{7f}" into 2829 gives refuse 3 1) ∷ (65 ∷ 0xD800 ∷ [] into 2829 gives refuse 1 1) ∷
-    (0x110000 ∷ [] into 2829 gives refuse 1 0) ∷ (Ɓ ∷ replicate 255 65 into 2829 gives refuse 4 256) ∷
-    (Ɓ ∷ replicate 300 65 ++ (0x20AC ∷ []) into 2829 gives refuse 3 301) ∷ (points "À" into 34 gives refuse 5 35) ∷
+    (points "Ć1À" into 44024 gives refuse 3 2) ∷ (points "Ɓ\u{7f}" into 44024 gives refuse 3 1) ∷ (65 ∷ 0xD800 ∷ [] into 44024 gives refuse 1 1) ∷
+    (0x110000 ∷ [] into 44024 gives refuse 1 0) ∷ (Ɓ ∷ replicate 300 65 ++ (0x20AC ∷ []) into 44024 gives refuse 3 301) ∷ (points "À" into 34 gives refuse 5 35) ∷
     (points "À" into 35 gives accept 1 (cellsOf "11010000100110110011001100011101011")) ∷
-    (points "À" into 2829 gives accept 1 (cellsOf "11010000100110110011001100011101011")) ∷
-    (points "Ć12" into 2829 gives accept 2 (cellsOf "1101001110010110011100100110011101100011101011")) ∷ ([] into 2829 gives refuse 2 0) ∷
-    (points "Ć1" into 2829 gives refuse 3 2) ∷ (0xD800 ∷ [] into 2829 gives refuse 1 0) ∷ []
+    (points "À" into 44024 gives accept 1 (cellsOf "11010000100110110011001100011101011")) ∷
+    (points "Ć12" into 44024 gives accept 2 (cellsOf "1101001110010110011100100110011101100011101011")) ∷ ([] into 44024 gives refuse 2 0) ∷
+    (points "Ć1" into 44024 gives refuse 3 2) ∷ (0xD800 ∷ [] into 44024 gives refuse 1 0) ∷ []
 
--- "Unpack of 1, 0: 22, 0. Of 2, 1: 21, 2. Of one byte: 20, 1."
+-- "Unpack of 1, 0: 22, 0. … Of one byte: 20, 1.", and by request 4 of document 02 "unpack of 2, 1
+-- answers 22, 0".
 unfoldable pub unstarredRecords : List Example
 unstarredRecords =
-    (1 ∷ 0 ∷ [] into 2829 gives refuse 22 0) ∷ (2 ∷ 1 ∷ [] into 2829 gives refuse 21 2) ∷ (1 ∷ [] into 2829 gives refuse 20 1) ∷ []
+    (1 ∷ 0 ∷ [] into 44024 gives refuse 22 0) ∷ (2 ∷ 1 ∷ [] into 44024 gives refuse 22 0) ∷ (1 ∷ [] into 44024 gives refuse 20 1) ∷ []
 
 -- "Ɓ and 254 A: n = 255." and "Ć and 508 digits: n = 255.", the digits being 0 to 9 again and
--- again. The rows are put together from patterns of `CHARS`, copied from the crate's source;
--- model.py computed the checks, 81 and 83.
-unfoldable pub longest : List Example
-longest =
-    ((Ɓ ∷ replicate 254 65) into 2829 gives accept 255
+-- again; and by request 4 "Ɓ and 255 A is now accepted with n = 256". The rows are put together
+-- from patterns of `CHARS`, copied from the crate's source, and the crate writes the same; model.py
+-- computed the checks, 81, 83 and 50.
+unfoldable pub longRows : List Example
+longRows =
+    ((Ɓ ∷ replicate 254 65) into 44024 gives accept 255
     (cellsOf "11010010000" ++ (times 254 (cellsOf "10100011000") ++ cellsOf "10010111100 1100011101011"))) ∷
-    ((Ć ∷ times 50 (points "0123456789") ++ points "01234567") into 2829 gives accept 255
+    ((Ć ∷ times 50 (points "0123456789") ++ points "01234567") into 44024 gives accept 255
     (cellsOf "11010011100" ++ (times 50 (cellsOf "11001101100 11101101110 10111011000 10000101100 11011011110") ++
-    cellsOf "11001101100 11101101110 10111011000 10000101100 10111100100 1100011101011"))) ∷ []
+    cellsOf "11001101100 11101101110 10111011000 10000101100 10111100100 1100011101011"))) ∷
+    ((Ɓ ∷ replicate 255 65) into 44024 gives accept 256
+    (cellsOf "11010010000" ++ (times 255 (cellsOf "10100011000") ++ cellsOf "11000101110 1100011101011"))) ∷ []
 
--- Encode's refusals, their places and their order, by hand from document 01's table and "Order".
--- The values D800..DFFF and those above 10FFFF are no Rust chars, so the crate cannot be asked
--- about refusal 1.
+-- Encode's refusals, their places and their order, by hand from document 01's table and "Order",
+-- with the limit of request 4. The values D800..DFFF and those above 10FFFF are no Rust chars, so
+-- the crate cannot be asked about refusal 1.
 unfoldable pub order : List Example
 order =
-    (0xDFFF ∷ [] into 2829 gives refuse 1 0) ∷ (0xFFFFFFFF ∷ [] into 2829 gives refuse 1 0) ∷ (0xD7FF ∷ [] into 2829 gives refuse 3 0) ∷
-    (0xE000 ∷ [] into 2829 gives refuse 3 0) ∷ (0x10FFFF ∷ [] into 2829 gives refuse 3 0) ∷ (À ∷ 0xDBFF ∷ 0xDC00 ∷ [] into 2829 gives refuse 1 1) ∷
-    (65 ∷ 65 ∷ 65 ∷ 0xDABC ∷ [] into 2829 gives refuse 1 3) ∷ (Ć ∷ 49 ∷ À ∷ 0x110000 ∷ 0xD800 ∷ [] into 0 gives refuse 1 3) ∷
-    (Ɓ ∷ replicate 300 65 ++ (0xD800 ∷ []) into 2829 gives refuse 1 301) ∷ ([] into 0 gives refuse 2 0) ∷ (0x7F ∷ [] into 0 gives refuse 2 0) ∷
-    (0 ∷ [] into 2829 gives refuse 2 0) ∷ (0x80 ∷ [] into 0 gives refuse 3 0) ∷ (65 ∷ 65 ∷ [] into 0 gives refuse 3 0) ∷ (points "ÀÀ" into 0 gives refuse 3 1) ∷
-    (Ć ∷ replicate 509 48 into 2829 gives refuse 3 510) ∷ (Ć ∷ replicate 510 48 into 0 gives refuse 4 256) ∷ (Ɓ ∷ replicate 255 65 into 0 gives refuse 4 256) ∷
-    (points "À" into 0 gives refuse 5 35) ∷ (points "Ć12" into 45 gives refuse 5 46) ∷ (Ɓ ∷ replicate 254 65 into 2828 gives refuse 5 2829) ∷ []
+    (0xDFFF ∷ [] into 44024 gives refuse 1 0) ∷ (0xFFFFFFFF ∷ [] into 44024 gives refuse 1 0) ∷ (0xD7FF ∷ [] into 44024 gives refuse 3 0) ∷
+    (0xE000 ∷ [] into 44024 gives refuse 3 0) ∷ (0x10FFFF ∷ [] into 44024 gives refuse 3 0) ∷ (À ∷ 0xDBFF ∷ 0xDC00 ∷ [] into 44024 gives refuse 1 1) ∷
+    (65 ∷ 65 ∷ 65 ∷ 0xDABC ∷ [] into 44024 gives refuse 1 3) ∷ (Ć ∷ 49 ∷ À ∷ 0x110000 ∷ 0xD800 ∷ [] into 0 gives refuse 1 3) ∷
+    (Ɓ ∷ replicate 4000 65 ++ (0xD800 ∷ []) into 44024 gives refuse 1 4001) ∷ ([] into 0 gives refuse 2 0) ∷ (0x7F ∷ [] into 0 gives refuse 2 0) ∷
+    (0 ∷ [] into 44024 gives refuse 2 0) ∷ (0x80 ∷ [] into 0 gives refuse 3 0) ∷ (65 ∷ 65 ∷ [] into 0 gives refuse 3 0) ∷ (points "ÀÀ" into 0 gives refuse 3 1) ∷
+    (Ɓ ∷ replicate 4000 65 ++ (0x20AC ∷ []) into 44024 gives refuse 3 4001) ∷ (Ć ∷ replicate 8000 48 into 0 gives refuse 4 4001) ∷
+    (Ɓ ∷ replicate 4000 65 into 0 gives refuse 4 4001) ∷ (points "À" into 0 gives refuse 5 35) ∷ (points "Ć12" into 45 gives refuse 5 46) ∷
+    (Ɓ ∷ replicate 254 65 into 2828 gives refuse 5 2829) ∷ (Ɓ ∷ replicate 255 65 into 2839 gives refuse 5 2840) ∷
+    (Ć ∷ replicate 509 48 into 44024 gives refuse 3 510) ∷ (Ć ∷ replicate 510 48 into 0 gives refuse 5 2840) ∷ []
 
 -- ---- b. published examples
 
@@ -401,25 +465,25 @@ everyPair =
 -- digits that are not ASCII
 unfoldable pub foreignDigits : List Example
 foreignDigits =
-    (0x106 ∷ 0x661 ∷ 0x662 ∷ [] into 2829 gives refuse 3 1) ∷ (0x106 ∷ 0x661 ∷ 0x31 ∷ 0x32 ∷ [] into 2829 gives refuse 3 1) ∷
-    (0x106 ∷ 0x31 ∷ 0x661 ∷ [] into 2829 gives refuse 3 2) ∷ (0x106 ∷ 0xFF11 ∷ 0xFF12 ∷ [] into 2829 gives refuse 3 1) ∷
-    (0x106 ∷ 0x31 ∷ 0xFF12 ∷ [] into 2829 gives refuse 3 2) ∷ (0x106 ∷ 0xFF11 ∷ 0x32 ∷ [] into 2829 gives refuse 3 1) ∷
-    (0x106 ∷ 0x967 ∷ 0x968 ∷ [] into 2829 gives refuse 3 1) ∷ (0x106 ∷ 0xB2 ∷ 0xB3 ∷ [] into 2829 gives refuse 3 1) ∷
-    (0x106 ∷ 0x31 ∷ 0xB2 ∷ [] into 2829 gives refuse 3 2) ∷ (0x106 ∷ 0x1D7CF ∷ 0x32 ∷ [] into 2829 gives refuse 3 1) ∷
-    (0xC0 ∷ 0x661 ∷ [] into 2829 gives refuse 3 1) ∷ (0xC0 ∷ 0xB2 ∷ [] into 2829 gives refuse 3 1) ∷ (0x181 ∷ 0xFF11 ∷ [] into 2829 gives refuse 3 1) ∷
-    (0x181 ∷ 0x2460 ∷ [] into 2829 gives refuse 3 1) ∷ (0x661 ∷ 0x31 ∷ [] into 2829 gives refuse 3 0) ∷ []
+    (0x106 ∷ 0x661 ∷ 0x662 ∷ [] into 44024 gives refuse 3 1) ∷ (0x106 ∷ 0x661 ∷ 0x31 ∷ 0x32 ∷ [] into 44024 gives refuse 3 1) ∷
+    (0x106 ∷ 0x31 ∷ 0x661 ∷ [] into 44024 gives refuse 3 2) ∷ (0x106 ∷ 0xFF11 ∷ 0xFF12 ∷ [] into 44024 gives refuse 3 1) ∷
+    (0x106 ∷ 0x31 ∷ 0xFF12 ∷ [] into 44024 gives refuse 3 2) ∷ (0x106 ∷ 0xFF11 ∷ 0x32 ∷ [] into 44024 gives refuse 3 1) ∷
+    (0x106 ∷ 0x967 ∷ 0x968 ∷ [] into 44024 gives refuse 3 1) ∷ (0x106 ∷ 0xB2 ∷ 0xB3 ∷ [] into 44024 gives refuse 3 1) ∷
+    (0x106 ∷ 0x31 ∷ 0xB2 ∷ [] into 44024 gives refuse 3 2) ∷ (0x106 ∷ 0x1D7CF ∷ 0x32 ∷ [] into 44024 gives refuse 3 1) ∷
+    (0xC0 ∷ 0x661 ∷ [] into 44024 gives refuse 3 1) ∷ (0xC0 ∷ 0xB2 ∷ [] into 44024 gives refuse 3 1) ∷ (0x181 ∷ 0xFF11 ∷ [] into 44024 gives refuse 3 1) ∷
+    (0x181 ∷ 0x2460 ∷ [] into 44024 gives refuse 3 1) ∷ (0x661 ∷ 0x31 ∷ [] into 44024 gives refuse 3 0) ∷ []
 
 -- what a label may begin with, and Error::Length; 41 300 is A with a combining accent, not À
 unfoldable pub firstPoints : List Example
 firstPoints =
-    ([] into 2829 gives refuse 2 0) ∷ (0x0 ∷ [] into 2829 gives refuse 2 0) ∷ (0x30 ∷ [] into 2829 gives refuse 2 0) ∷ (0x41 ∷ [] into 2829 gives refuse 2 0) ∷
-    (0x7F ∷ [] into 2829 gives refuse 2 0) ∷ (0x80 ∷ [] into 2829 gives refuse 3 0) ∷ (0xC0 ∷ [] into 2829 gives accepted 1 "D09B331D6") ∷
-    (0x106 ∷ [] into 2829 gives accepted 1 "D3999B1D6") ∷ (0x181 ∷ [] into 2829 gives accepted 1 "D219B31D6") ∷ (0xF7 ∷ [] into 2829 gives refuse 3 0) ∷
-    (0x179 ∷ [] into 2829 gives refuse 3 0) ∷ (0x7FF ∷ [] into 2829 gives refuse 3 0) ∷ (0x800 ∷ [] into 2829 gives refuse 3 0) ∷
-    (0xFFFF ∷ [] into 2829 gives refuse 3 0) ∷ (0x10000 ∷ [] into 2829 gives refuse 3 0) ∷ (0x10FFFF ∷ [] into 2829 gives refuse 3 0) ∷
-    (0x41 ∷ 0x41 ∷ [] into 2829 gives refuse 3 0) ∷ (0x31 ∷ 0x32 ∷ [] into 2829 gives refuse 3 0) ∷ (0x41 ∷ 0xC0 ∷ [] into 2829 gives refuse 3 0) ∷
-    (0x179 ∷ 0xC0 ∷ [] into 2829 gives refuse 3 0) ∷ (0x20 ∷ 0xC0 ∷ [] into 2829 gives refuse 3 0) ∷ (0xFEFF ∷ 0xC0 ∷ [] into 2829 gives refuse 3 0) ∷
-    (0x41 ∷ 0x300 ∷ [] into 2829 gives refuse 3 0) ∷ []
+    ([] into 44024 gives refuse 2 0) ∷ (0x0 ∷ [] into 44024 gives refuse 2 0) ∷ (0x30 ∷ [] into 44024 gives refuse 2 0) ∷ (0x41 ∷ [] into 44024 gives refuse 2 0) ∷
+    (0x7F ∷ [] into 44024 gives refuse 2 0) ∷ (0x80 ∷ [] into 44024 gives refuse 3 0) ∷ (0xC0 ∷ [] into 44024 gives accepted 1 "D09B331D6") ∷
+    (0x106 ∷ [] into 44024 gives accepted 1 "D3999B1D6") ∷ (0x181 ∷ [] into 44024 gives accepted 1 "D219B31D6") ∷ (0xF7 ∷ [] into 44024 gives refuse 3 0) ∷
+    (0x179 ∷ [] into 44024 gives refuse 3 0) ∷ (0x7FF ∷ [] into 44024 gives refuse 3 0) ∷ (0x800 ∷ [] into 44024 gives refuse 3 0) ∷
+    (0xFFFF ∷ [] into 44024 gives refuse 3 0) ∷ (0x10000 ∷ [] into 44024 gives refuse 3 0) ∷ (0x10FFFF ∷ [] into 44024 gives refuse 3 0) ∷
+    (0x41 ∷ 0x41 ∷ [] into 44024 gives refuse 3 0) ∷ (0x31 ∷ 0x32 ∷ [] into 44024 gives refuse 3 0) ∷ (0x41 ∷ 0xC0 ∷ [] into 44024 gives refuse 3 0) ∷
+    (0x179 ∷ 0xC0 ∷ [] into 44024 gives refuse 3 0) ∷ (0x20 ∷ 0xC0 ∷ [] into 44024 gives refuse 3 0) ∷ (0xFEFF ∷ 0xC0 ∷ [] into 44024 gives refuse 3 0) ∷
+    (0x41 ∷ 0x300 ∷ [] into 44024 gives refuse 3 0) ∷ []
 
 -- the labels of the crate's documentation, those of b, and others of everyday use
 unfoldable pub documented : List Label
@@ -497,9 +561,9 @@ checksOn =
     ("À_\u{7}" ⇒ accepted 3 "D094C2687AEC758") ∷ ("ƁÀ" ⇒ accepted 2 "D21D7BD763AC") ∷ ("ĆƁ" ⇒ accepted 2 "D397BBD763AC") ∷
     ("À1\u{15}PŻ" ⇒ accepted 5 "D0939A79776BC5EA31D6") ∷ ("ƁŻ" ⇒ accepted 2 "D2178BD463AC") ∷ ("Ć7661" ⇒ accepted 3 "D39943217A8C758") ∷ []
 
--- The labels with ź that the crate accepts: those left out of the tables above, and others, two of
--- them with more than 255 symbols. Before request 12 of document 02 they were answered by the
--- crate's row, or by 4 above 255 symbols; now they are refused 19 at their first ź, whose place was
+-- The labels with ź that the crate accepts: those left out of the tables above, and others, one of
+-- them with more than 4,000 symbols. Before request 12 of document 02 they were answered by the
+-- crate's row, or by 4 above the limit; now they are refused 19 at their first ź, whose place was
 -- looked up in the text.
 unfoldable pub withFNC2 : List WithFNC2
 withFNC2 =
@@ -543,8 +607,8 @@ withFNC2 =
     (points "ƁŽź" firstAt 2 gives accepted 3 "D21E8BD4794C758") ∷ (points "ÀŹź" firstAt 2 gives accepted 3 "D09EBBD46F6C758") ∷
     (points "Ɓ÷ź" firstAt 2 gives accepted 3 "D217A3D44F4C758") ∷ (points "À\0ź" firstAt 2 gives accepted 3 "D09433D46E2C758") ∷
     (points "ƁźAź" firstAt 1 gives accepted 4 "D21EA28C7A8B1D8EB") ∷ (points "ÀAIMź" firstAt 4 gives accepted 5 "D09463115D8F5193B1D6") ∷
-    (points "ƁAIMĆ1234Ɓź" firstAt 10 gives accepted 9 "D21463115D8BBD6722C5EEF519CB1D6") ∷ (Ɓ ∷ replicate 255 0x17A firstAt 1 gives refuse 4 256) ∷
-    (Ɓ ∷ replicate 300 65 ++ (0x17A ∷ []) firstAt 301 gives refuse 4 302) ∷ []
+    (points "ƁAIMĆ1234Ɓź" firstAt 10 gives accepted 9 "D21463115D8BBD6722C5EEF519CB1D6") ∷ (points "ÀŻźĆ99" firstAt 2 gives accepted 5 "D0978BD45DEBBDC5B1D6") ∷
+    (Ɓ ∷ replicate 4000 65 ++ (0x17A ∷ []) firstAt 4001 gives refuse 4 4002) ∷ []
 
 -- Every code point below 512 and 7FF, 800, D7FF, E000, FFFF, 10000 and 10FFFF, put between two
 -- texts: those that are not refused 3 at that place, in their order. The crate was run on all other
@@ -576,123 +640,133 @@ readBack =
     (rowOf 20 "D09D33D75DEF6D9B3B175EDBDDBBAF614F4577BD772CF5D193B275E8BD8EB" into 20
     gives accept 20 (103 ∷ 24 ∷ 102 ∷ 99 ∷ 91 ∷ 1 ∷ 58 ∷ 101 ∷ 89 ∷ 23 ∷ 101 ∷ 78 ∷ 98 ∷ 99 ∷ 102 ∷ 25 ∷ 102 ∷ 8 ∷ 27 ∷ 101 ∷ [])) ∷ []
 
--- Refusals 10 and 11, by hand: a row has 11(n+1)+13 cells with 1 ≤ n ≤ 255, and 11 gives the place
--- of the first cell neither 0 nor 1.
+-- Refusals 10 and 11, by hand: a row has 11(n+1)+13 cells with 1 ≤ n ≤ 4,000, and 11 gives the
+-- place of the first cell neither 0 nor 1.
 unfoldable pub readLengths : List Example
 readLengths =
-    ([] into 255 gives refuse 10 0) ∷ (replicate 24 1 into 255 gives refuse 10 24) ∷ (replicate 34 0 into 255 gives refuse 10 34) ∷
-    (replicate 36 0 into 255 gives refuse 10 36) ∷ (replicate 47 1 into 255 gives refuse 10 47) ∷ (replicate 2829 0 into 255 gives refuse 12 0) ∷
-    (replicate 2829 1 into 255 gives refuse 16 0) ∷ (replicate 2830 1 into 255 gives refuse 10 2830) ∷ (replicate 2840 1 into 255 gives refuse 10 2840) ∷
-    (replicate 34 2 into 0 gives refuse 10 34) ∷ (replicate 35 2 into 0 gives refuse 11 0) ∷ (replicate 35 255 into 255 gives refuse 11 0) ∷
-    (replicate 34 0 ++ (2 ∷ []) into 255 gives refuse 11 34) ∷ (replicate 2828 0 ++ (3 ∷ []) into 255 gives refuse 11 2828) ∷
-    (cellsOf "11010000100 11011001100 110001110101" into 255 gives refuse 10 34) ∷ (cellsOf "11010000100 11011001100 11000111010111" into 255 gives refuse 10 36) ∷
-    (cellsOf "11010000100 1100011101011" into 255 gives refuse 10 24) ∷ (cellsOf "11010000100 11021001100 1100011101011" into 255 gives refuse 11 14) ∷
-    (cellsOf "00000000000 11011001102 1100011101011" into 255 gives refuse 11 21) ∷ (cellsOf "11111111111 11011001102 1100011101011" into 255 gives refuse 11 21) ∷
-    (cellsOf "10100011000 11010000100 1100011101012" into 255 gives refuse 11 34) ∷ (cellsOf "11010000100 11011001100 2100011101011" into 0 gives refuse 11 22) ∷
-    (cellsOf "21010000100 11011301100 1100011101011" into 255 gives refuse 11 0) ∷
-    (cellsOf "11010000100 10111011110 12111011110 1102011101011" into 255 gives refuse 11 23) ∷ []
+    ([] into 4000 gives refuse 10 0) ∷ (replicate 24 1 into 4000 gives refuse 10 24) ∷ (replicate 34 0 into 4000 gives refuse 10 34) ∷
+    (replicate 36 0 into 4000 gives refuse 10 36) ∷ (replicate 47 1 into 4000 gives refuse 10 47) ∷ (replicate 2829 0 into 4000 gives refuse 12 0) ∷
+    (replicate 2829 1 into 4000 gives refuse 16 0) ∷ (replicate 2830 1 into 4000 gives refuse 10 2830) ∷ (replicate 2840 1 into 4000 gives refuse 16 0) ∷
+    (replicate 44025 1 into 4000 gives refuse 10 44025) ∷ (replicate 44035 1 into 4000 gives refuse 10 44035) ∷ (replicate 34 2 into 0 gives refuse 10 34) ∷
+    (replicate 35 2 into 0 gives refuse 11 0) ∷ (replicate 35 255 into 4000 gives refuse 11 0) ∷ (replicate 34 0 ++ (2 ∷ []) into 4000 gives refuse 11 34) ∷
+    (replicate 2828 0 ++ (3 ∷ []) into 4000 gives refuse 11 2828) ∷ (cellsOf "11010000100 11011001100 110001110101" into 4000 gives refuse 10 34) ∷
+    (cellsOf "11010000100 11011001100 11000111010111" into 4000 gives refuse 10 36) ∷ (cellsOf "11010000100 1100011101011" into 4000 gives refuse 10 24) ∷
+    (cellsOf "11010000100 11021001100 1100011101011" into 4000 gives refuse 11 14) ∷
+    (cellsOf "00000000000 11011001102 1100011101011" into 4000 gives refuse 11 21) ∷
+    (cellsOf "11111111111 11011001102 1100011101011" into 4000 gives refuse 11 21) ∷
+    (cellsOf "10100011000 11010000100 1100011101012" into 4000 gives refuse 11 34) ∷ (cellsOf "11010000100 11011001100 2100011101011" into 0 gives refuse 11 22) ∷
+    (cellsOf "21010000100 11011301100 1100011101011" into 4000 gives refuse 11 0) ∷
+    (cellsOf "11010000100 10111011110 12111011110 1102011101011" into 4000 gives refuse 11 23) ∷ []
 
 -- Refusals 12, 16 and 13, by hand: the first block from the left that is no pattern, 16 where its
 -- number of bar cells is odd and else 12; or that is not a START at block 0, or that is above 102
 -- after it. They come before 15, 14 and 5.
 unfoldable pub readBlocks : List Example
 readBlocks =
-    (cellsOf "11010000101 11011001100 1100011101011" into 255 gives refuse 16 0) ∷ (cellsOf "00000000000 11011001100 1100011101011" into 255 gives refuse 12 0) ∷
-    (cellsOf "11111111111 11011001100 1100011101011" into 255 gives refuse 16 0) ∷ (cellsOf "11000111010 11011001100 1100011101011" into 255 gives refuse 12 0) ∷
-    (cellsOf "00100001011 11011001100 1100011101011" into 255 gives refuse 12 0) ∷ (cellsOf "11010000100 11010001100 1100011101011" into 255 gives refuse 16 1) ∷
-    (cellsOf "11010000100 11000111010 1100011101011" into 255 gives refuse 12 1) ∷
-    (cellsOf "11010011100 11110011100 10011001110 1100011101011" into 255 gives refuse 16 1) ∷
-    (cellsOf "11010011100 10110011100 00000000000 1100011101011" into 255 gives refuse 12 2) ∷
-    (cellsOf "11010011100 10110011100 10011001100 1100011101011" into 255 gives refuse 16 2) ∷
-    (cellsOf "11010010000 10100011000 11000100010 11111111111 10111011000 1100011101011" into 255 gives refuse 16 3) ∷
+    (cellsOf "11010000101 11011001100 1100011101011" into 4000 gives refuse 16 0) ∷ (cellsOf "00000000000 11011001100 1100011101011" into 4000 gives refuse 12 0) ∷
+    (cellsOf "11111111111 11011001100 1100011101011" into 4000 gives refuse 16 0) ∷ (cellsOf "11000111010 11011001100 1100011101011" into 4000 gives refuse 12 0) ∷
+    (cellsOf "00100001011 11011001100 1100011101011" into 4000 gives refuse 12 0) ∷ (cellsOf "11010000100 11010001100 1100011101011" into 4000 gives refuse 16 1) ∷
+    (cellsOf "11010000100 11000111010 1100011101011" into 4000 gives refuse 12 1) ∷
+    (cellsOf "11010011100 11110011100 10011001110 1100011101011" into 4000 gives refuse 16 1) ∷
+    (cellsOf "11010011100 10110011100 00000000000 1100011101011" into 4000 gives refuse 12 2) ∷
+    (cellsOf "11010011100 10110011100 10011001100 1100011101011" into 4000 gives refuse 16 2) ∷
+    (cellsOf "11010010000 10100011000 11000100010 11111111111 10111011000 1100011101011" into 4000 gives refuse 16 3) ∷
     (cellsOf "11010010000 10100011000 11000100010 10111011000 11111111111 1100011101011" into 0 gives refuse 16 4) ∷
-    (cellsOf "11011001100 11011001100 1100011101011" into 255 gives refuse 13 0) ∷ (cellsOf "11110101110 11011001100 1100011101011" into 255 gives refuse 13 0) ∷
-    (cellsOf "10100011000 11000100010 10111011000 1100011101011" into 255 gives refuse 13 0) ∷
-    (cellsOf "11010000100 11010000100 1100011101011" into 255 gives refuse 13 1) ∷ (cellsOf "11010000100 11010010000 1100011101011" into 255 gives refuse 13 1) ∷
-    (cellsOf "11010011100 11010000100 10011001110 1100011101011" into 255 gives refuse 13 1) ∷
-    (cellsOf "11010011100 10110011100 11010000100 1100011101011" into 255 gives refuse 13 2) ∷
-    (cellsOf "11010011100 10110011100 11010011100 1100011101011" into 255 gives refuse 13 2) ∷
-    (cellsOf "11010010000 10100011000 11010010000 10111011000 10111011000 1100011101011" into 255 gives refuse 13 2) ∷
+    (cellsOf "11011001100 11011001100 1100011101011" into 4000 gives refuse 13 0) ∷ (cellsOf "11110101110 11011001100 1100011101011" into 4000 gives refuse 13 0) ∷
+    (cellsOf "10100011000 11000100010 10111011000 1100011101011" into 4000 gives refuse 13 0) ∷
+    (cellsOf "11010000100 11010000100 1100011101011" into 4000 gives refuse 13 1) ∷ (cellsOf "11010000100 11010010000 1100011101011" into 4000 gives refuse 13 1) ∷
+    (cellsOf "11010011100 11010000100 10011001110 1100011101011" into 4000 gives refuse 13 1) ∷
+    (cellsOf "11010011100 10110011100 11010000100 1100011101011" into 4000 gives refuse 13 2) ∷
+    (cellsOf "11010011100 10110011100 11010011100 1100011101011" into 4000 gives refuse 13 2) ∷
+    (cellsOf "11010010000 10100011000 11010010000 10111011000 10111011000 1100011101011" into 4000 gives refuse 13 2) ∷
     (cellsOf "11010010000 10100011000 11000100010 10111011000 11010010000 1100011101011" into 0 gives refuse 13 4) ∷
-    (cellsOf "00000000000 11010000100 1100011101011" into 255 gives refuse 12 0) ∷ (cellsOf "10100011000 00000000000 1100011101011" into 255 gives refuse 13 0) ∷
-    (cellsOf "11010011100 00000000000 11010000100 1100011101011" into 255 gives refuse 12 1) ∷
-    (cellsOf "11010011100 11010000100 00000000000 1100011101011" into 255 gives refuse 13 1) ∷
-    (cellsOf "11010010000 10100011000 00000000000 11010000100 10111011000 1100011101011" into 255 gives refuse 12 2) ∷
-    (cellsOf "11010010000 10100011000 11010000100 00000000000 10111011000 1100011101011" into 255 gives refuse 13 2) ∷
-    (cellsOf "11010000100 11010000100 0000000000000" into 255 gives refuse 13 1) ∷ (cellsOf "11010000100 00000000000 0000000000000" into 255 gives refuse 12 1) ∷
-    (cellsOf "10100011000 11011001100 0100011101011" into 255 gives refuse 13 0) ∷ []
+    (cellsOf "00000000000 11010000100 1100011101011" into 4000 gives refuse 12 0) ∷ (cellsOf "10100011000 00000000000 1100011101011" into 4000 gives refuse 13 0) ∷
+    (cellsOf "11010011100 00000000000 11010000100 1100011101011" into 4000 gives refuse 12 1) ∷
+    (cellsOf "11010011100 11010000100 00000000000 1100011101011" into 4000 gives refuse 13 1) ∷
+    (cellsOf "11010010000 10100011000 00000000000 11010000100 10111011000 1100011101011" into 4000 gives refuse 12 2) ∷
+    (cellsOf "11010010000 10100011000 11010000100 00000000000 10111011000 1100011101011" into 4000 gives refuse 13 2) ∷
+    (cellsOf "11010000100 11010000100 0000000000000" into 4000 gives refuse 13 1) ∷ (cellsOf "11010000100 00000000000 0000000000000" into 4000 gives refuse 12 1) ∷
+    (cellsOf "10100011000 11011001100 0100011101011" into 4000 gives refuse 13 0) ∷ []
 
 -- Refusal 16 and its neighbours, by hand from request 3 of document 02: a block that is no pattern
 -- is answered 16 where its number of bar cells is odd. Every pattern has an even number, so one
 -- cell flipped in a pattern makes 16, and two make 12 or another pattern.
 unfoldable pub readWorn : List Example
 readWorn =
-    (cellsOf "11010000100 00000000000 1100011101011" into 255 gives refuse 12 1) ∷ (cellsOf "11010000100 10000000000 1100011101011" into 255 gives refuse 16 1) ∷
-    (cellsOf "11010000100 11000000000 1100011101011" into 255 gives refuse 12 1) ∷ (cellsOf "11010000100 11100000000 1100011101011" into 255 gives refuse 16 1) ∷
-    (cellsOf "11010000100 11110000000 1100011101011" into 255 gives refuse 12 1) ∷ (cellsOf "11010000100 11111000000 1100011101011" into 255 gives refuse 16 1) ∷
-    (cellsOf "11010000100 11111100000 1100011101011" into 255 gives refuse 12 1) ∷ (cellsOf "11010000100 11111110000 1100011101011" into 255 gives refuse 16 1) ∷
-    (cellsOf "11010000100 11111111000 1100011101011" into 255 gives refuse 12 1) ∷ (cellsOf "11010000100 11111111100 1100011101011" into 255 gives refuse 16 1) ∷
-    (cellsOf "11010000100 11111111110 1100011101011" into 255 gives refuse 12 1) ∷ (cellsOf "11010000100 11111111111 1100011101011" into 255 gives refuse 16 1) ∷
-    (cellsOf "11010000111 11011001100 1100011101011" into 255 gives refuse 12 0) ∷
-    (cellsOf "11010011100 01110011100 10011001110 1100011101011" into 255 gives refuse 12 1) ∷
-    (cellsOf "11010011100 10110011100 10011001101 1100011101011" into 255 gives refuse 12 2) ∷
-    (cellsOf "11010010000 11011001100 1100011101011" into 255 gives refuse 14 1) ∷
-    (cellsOf "11010011100 11010011100 10011001110 1100011101011" into 255 gives refuse 13 1) ∷
-    (cellsOf "00110000100 11011001100 1100011101011" into 255 gives refuse 16 0) ∷
-    (cellsOf "11010011100 10110011101 00011001110 1100011101011" into 255 gives refuse 16 1) ∷
-    (cellsOf "11111111111 00000000000 1100011101011" into 255 gives refuse 16 0) ∷ (cellsOf "00000000000 11111111111 1100011101011" into 255 gives refuse 12 0) ∷
-    (cellsOf "11010011100 11111111111 11000111010 1100011101011" into 255 gives refuse 16 1) ∷
-    (cellsOf "11010011100 11000111010 11111111111 1100011101011" into 255 gives refuse 12 1) ∷
-    (cellsOf "11010010000 10100011000 11001100010 00000000000 10111011000 1100011101011" into 255 gives refuse 16 2) ∷
-    (cellsOf "11010010000 10100011000 00000000000 10110011000 10111011000 1100011101011" into 255 gives refuse 12 2) ∷
-    (cellsOf "11111111111 11010000100 1100011101011" into 255 gives refuse 16 0) ∷ (cellsOf "10100011000 11111111111 1100011101011" into 255 gives refuse 13 0) ∷
-    (cellsOf "11010011100 10110111100 11010000100 1100011101011" into 255 gives refuse 16 1) ∷
-    (cellsOf "11010011100 11010000100 10011101110 1100011101011" into 255 gives refuse 13 1) ∷
-    (cellsOf "11010000100 11011001101 1100011101011" into 0 gives refuse 16 1) ∷ (cellsOf "11010000100 11001101101 1100011101011" into 255 gives refuse 16 1) ∷
+    (cellsOf "11010000100 00000000000 1100011101011" into 4000 gives refuse 12 1) ∷ (cellsOf "11010000100 10000000000 1100011101011" into 4000 gives refuse 16 1) ∷
+    (cellsOf "11010000100 11000000000 1100011101011" into 4000 gives refuse 12 1) ∷ (cellsOf "11010000100 11100000000 1100011101011" into 4000 gives refuse 16 1) ∷
+    (cellsOf "11010000100 11110000000 1100011101011" into 4000 gives refuse 12 1) ∷ (cellsOf "11010000100 11111000000 1100011101011" into 4000 gives refuse 16 1) ∷
+    (cellsOf "11010000100 11111100000 1100011101011" into 4000 gives refuse 12 1) ∷ (cellsOf "11010000100 11111110000 1100011101011" into 4000 gives refuse 16 1) ∷
+    (cellsOf "11010000100 11111111000 1100011101011" into 4000 gives refuse 12 1) ∷ (cellsOf "11010000100 11111111100 1100011101011" into 4000 gives refuse 16 1) ∷
+    (cellsOf "11010000100 11111111110 1100011101011" into 4000 gives refuse 12 1) ∷ (cellsOf "11010000100 11111111111 1100011101011" into 4000 gives refuse 16 1) ∷
+    (cellsOf "11010000111 11011001100 1100011101011" into 4000 gives refuse 12 0) ∷
+    (cellsOf "11010011100 01110011100 10011001110 1100011101011" into 4000 gives refuse 12 1) ∷
+    (cellsOf "11010011100 10110011100 10011001101 1100011101011" into 4000 gives refuse 12 2) ∷
+    (cellsOf "11010010000 11011001100 1100011101011" into 4000 gives refuse 14 1) ∷
+    (cellsOf "11010011100 11010011100 10011001110 1100011101011" into 4000 gives refuse 13 1) ∷
+    (cellsOf "00110000100 11011001100 1100011101011" into 4000 gives refuse 16 0) ∷
+    (cellsOf "11010011100 10110011101 00011001110 1100011101011" into 4000 gives refuse 16 1) ∷
+    (cellsOf "11111111111 00000000000 1100011101011" into 4000 gives refuse 16 0) ∷ (cellsOf "00000000000 11111111111 1100011101011" into 4000 gives refuse 12 0) ∷
+    (cellsOf "11010011100 11111111111 11000111010 1100011101011" into 4000 gives refuse 16 1) ∷
+    (cellsOf "11010011100 11000111010 11111111111 1100011101011" into 4000 gives refuse 12 1) ∷
+    (cellsOf "11010010000 10100011000 11001100010 00000000000 10111011000 1100011101011" into 4000 gives refuse 16 2) ∷
+    (cellsOf "11010010000 10100011000 00000000000 10110011000 10111011000 1100011101011" into 4000 gives refuse 12 2) ∷
+    (cellsOf "11111111111 11010000100 1100011101011" into 4000 gives refuse 16 0) ∷ (cellsOf "10100011000 11111111111 1100011101011" into 4000 gives refuse 13 0) ∷
+    (cellsOf "11010011100 10110111100 11010000100 1100011101011" into 4000 gives refuse 16 1) ∷
+    (cellsOf "11010011100 11010000100 10011101110 1100011101011" into 4000 gives refuse 13 1) ∷
+    (cellsOf "11010000100 11011001101 1100011101011" into 0 gives refuse 16 1) ∷ (cellsOf "11010000100 11001101101 1100011101011" into 4000 gives refuse 16 1) ∷
     (cellsOf "11010011100 10011011100 00011001110 1100011101011" into 1 gives refuse 16 2) ∷
-    (cellsOf "11010000100 01011001100 0000000000000" into 255 gives refuse 16 1) ∷ (cellsOf "01010000100 11001101100 0100011101011" into 0 gives refuse 16 0) ∷ []
+    (cellsOf "11010000100 01011001100 0000000000000" into 4000 gives refuse 16 1) ∷ (cellsOf "01010000100 11001101100 0100011101011" into 0 gives refuse 16 0) ∷ []
 
 -- Refusal 15, by hand: it gives the place in the row of the first wrong cell of the last 13.
 unfoldable pub readStops : List Example
 readStops =
-    (cellsOf "11010000100 11011001100 0100011101011" into 255 gives refuse 15 22) ∷ (cellsOf "11010000100 11011001100 1000011101011" into 255 gives refuse 15 23) ∷
-    (cellsOf "11010000100 11011001100 1110011101011" into 255 gives refuse 15 24) ∷ (cellsOf "11010000100 11011001100 1101011101011" into 255 gives refuse 15 25) ∷
-    (cellsOf "11010000100 11011001100 1100111101011" into 255 gives refuse 15 26) ∷ (cellsOf "11010000100 11011001100 1100001101011" into 255 gives refuse 15 27) ∷
-    (cellsOf "11010000100 11011001100 1100010101011" into 255 gives refuse 15 28) ∷ (cellsOf "11010000100 11011001100 1100011001011" into 255 gives refuse 15 29) ∷
-    (cellsOf "11010000100 11011001100 1100011111011" into 255 gives refuse 15 30) ∷ (cellsOf "11010000100 11011001100 1100011100011" into 255 gives refuse 15 31) ∷
-    (cellsOf "11010000100 11011001100 1100011101111" into 255 gives refuse 15 32) ∷ (cellsOf "11010000100 11011001100 1100011101001" into 255 gives refuse 15 33) ∷
-    (cellsOf "11010000100 11011001100 1100011101010" into 255 gives refuse 15 34) ∷
-    (cellsOf "11010011100 10110011100 10011001110 0100011101011" into 255 gives refuse 15 33) ∷
-    (cellsOf "11010011100 10110011100 10011001110 1100010101011" into 255 gives refuse 15 39) ∷
-    (cellsOf "11010011100 10110011100 10011001110 1100011101010" into 255 gives refuse 15 45) ∷
-    (cellsOf "11010000100 11011001100 0000000000000" into 255 gives refuse 15 22) ∷ (cellsOf "11010000100 11011001100 1111111111111" into 255 gives refuse 15 24) ∷
-    (cellsOf "11010000100 11011001100 1101000010011" into 255 gives refuse 15 25) ∷ (cellsOf "11010000100 11011001100 1101011100011" into 255 gives refuse 15 25) ∷
-    (cellsOf "11010000100 11011001100 1100001101010" into 255 gives refuse 15 27) ∷
-    (cellsOf "11010000100 11011001100 1100011101011 00000000000" into 255 gives refuse 12 2) ∷
-    (cellsOf "11010000100 11011001100 11000111010 1100011101011" into 255 gives refuse 12 2) ∷
-    (cellsOf "11010000100 11001101100 1100011101010" into 255 gives refuse 15 34) ∷
+    (cellsOf "11010000100 11011001100 0100011101011" into 4000 gives refuse 15 22) ∷
+    (cellsOf "11010000100 11011001100 1000011101011" into 4000 gives refuse 15 23) ∷
+    (cellsOf "11010000100 11011001100 1110011101011" into 4000 gives refuse 15 24) ∷
+    (cellsOf "11010000100 11011001100 1101011101011" into 4000 gives refuse 15 25) ∷
+    (cellsOf "11010000100 11011001100 1100111101011" into 4000 gives refuse 15 26) ∷
+    (cellsOf "11010000100 11011001100 1100001101011" into 4000 gives refuse 15 27) ∷
+    (cellsOf "11010000100 11011001100 1100010101011" into 4000 gives refuse 15 28) ∷
+    (cellsOf "11010000100 11011001100 1100011001011" into 4000 gives refuse 15 29) ∷
+    (cellsOf "11010000100 11011001100 1100011111011" into 4000 gives refuse 15 30) ∷
+    (cellsOf "11010000100 11011001100 1100011100011" into 4000 gives refuse 15 31) ∷
+    (cellsOf "11010000100 11011001100 1100011101111" into 4000 gives refuse 15 32) ∷
+    (cellsOf "11010000100 11011001100 1100011101001" into 4000 gives refuse 15 33) ∷
+    (cellsOf "11010000100 11011001100 1100011101010" into 4000 gives refuse 15 34) ∷
+    (cellsOf "11010011100 10110011100 10011001110 0100011101011" into 4000 gives refuse 15 33) ∷
+    (cellsOf "11010011100 10110011100 10011001110 1100010101011" into 4000 gives refuse 15 39) ∷
+    (cellsOf "11010011100 10110011100 10011001110 1100011101010" into 4000 gives refuse 15 45) ∷
+    (cellsOf "11010000100 11011001100 0000000000000" into 4000 gives refuse 15 22) ∷
+    (cellsOf "11010000100 11011001100 1111111111111" into 4000 gives refuse 15 24) ∷
+    (cellsOf "11010000100 11011001100 1101000010011" into 4000 gives refuse 15 25) ∷
+    (cellsOf "11010000100 11011001100 1101011100011" into 4000 gives refuse 15 25) ∷
+    (cellsOf "11010000100 11011001100 1100001101010" into 4000 gives refuse 15 27) ∷
+    (cellsOf "11010000100 11011001100 1100011101011 00000000000" into 4000 gives refuse 12 2) ∷
+    (cellsOf "11010000100 11011001100 11000111010 1100011101011" into 4000 gives refuse 12 2) ∷
+    (cellsOf "11010000100 11001101100 1100011101010" into 4000 gives refuse 15 34) ∷
     (cellsOf "11010011100 10110011100 10111001100 1000011101011" into 0 gives refuse 15 34) ∷
-    (cellsOf "11010010000 11011001100 1100011101001" into 255 gives refuse 15 33) ∷ []
+    (cellsOf "11010010000 11011001100 1100011101001" into 4000 gives refuse 15 33) ∷ []
 
 -- Refusal 14 with the right check number, refusal 5 with n, and rows that are accepted, by hand.
 unfoldable pub readChecks : List Example
 readChecks =
-    (cellsOf "11010000100 11001101100 1100011101011" into 255 gives refuse 14 0) ∷ (cellsOf "11010000100 11110101110 1100011101011" into 255 gives refuse 14 0) ∷
-    (cellsOf "11010010000 11011001100 1100011101011" into 255 gives refuse 14 1) ∷ (cellsOf "11010011100 11011001100 1100011101011" into 255 gives refuse 14 2) ∷
-    (cellsOf "11010011100 10110011100 10011011100 1100011101011" into 255 gives refuse 14 14) ∷
+    (cellsOf "11010000100 11001101100 1100011101011" into 4000 gives refuse 14 0) ∷ (cellsOf "11010000100 11110101110 1100011101011" into 4000 gives refuse 14 0) ∷
+    (cellsOf "11010010000 11011001100 1100011101011" into 4000 gives refuse 14 1) ∷ (cellsOf "11010011100 11011001100 1100011101011" into 4000 gives refuse 14 2) ∷
+    (cellsOf "11010011100 10110011100 10011011100 1100011101011" into 4000 gives refuse 14 14) ∷
     (cellsOf "11010011100 10110011100 10111001100 1100011101011" into 0 gives refuse 14 14) ∷
-    (cellsOf "11010011100 10011011100 10011001110 1100011101011" into 255 gives refuse 14 15) ∷
-    (cellsOf "11010010000 10110011100 10011001110 1100011101011" into 255 gives refuse 14 13) ∷
-    (cellsOf "11010000100 10110011100 10011001110 1100011101011" into 255 gives refuse 14 12) ∷
-    (cellsOf "11010011100 10111011110 10111011110 1100011101011" into 255 gives refuse 14 101) ∷
-    (cellsOf "11010010000 10100011000 11000100010 10111011000 10001101110 1100011101011" into 255 gives refuse 14 45) ∷
-    (cellsOf "11010010000 11000100010 10100011000 10111011000 10111011000 1100011101011" into 255 gives refuse 14 37) ∷
+    (cellsOf "11010011100 10011011100 10011001110 1100011101011" into 4000 gives refuse 14 15) ∷
+    (cellsOf "11010010000 10110011100 10011001110 1100011101011" into 4000 gives refuse 14 13) ∷
+    (cellsOf "11010000100 10110011100 10011001110 1100011101011" into 4000 gives refuse 14 12) ∷
+    (cellsOf "11010011100 10111011110 10111011110 1100011101011" into 4000 gives refuse 14 101) ∷
+    (cellsOf "11010010000 10100011000 11000100010 10111011000 10001101110 1100011101011" into 4000 gives refuse 14 45) ∷
+    (cellsOf "11010010000 11000100010 10100011000 10111011000 10111011000 1100011101011" into 4000 gives refuse 14 37) ∷
     (cellsOf "11010010000 10100011000 11000100010 10111011000 10111011110 10110011100 10001011000 11110100100 1100011101011" into 6 gives refuse 14 87) ∷
-    (cellsOf "11010011100 11110101110 10110011100 11101001100 1100011101011" into 255 gives refuse 14 25) ∷
+    (cellsOf "11010011100 11110101110 10110011100 11101001100 1100011101011" into 4000 gives refuse 14 25) ∷
     (cellsOf "11010000100 11011001100 1100011101011" into 0 gives refuse 5 1) ∷ (cellsOf "11010000100 11011001100 1100011101011" into 1 gives accept 1 (103 ∷ [])) ∷
     (cellsOf "11010010000 11001101100 1100011101011" into 1 gives accept 1 (104 ∷ [])) ∷
     (cellsOf "11010011100 11001100110 1100011101011" into 1 gives accept 1 (105 ∷ [])) ∷
-    (cellsOf "11010000100 11011001100 1100011101011" into 2829 gives accept 1 (103 ∷ [])) ∷
+    (cellsOf "11010000100 11011001100 1100011101011" into 4000 gives accept 1 (103 ∷ [])) ∷
     (cellsOf "11010011100 10110011100 10011001110 1100011101011" into 1 gives refuse 5 2) ∷
     (cellsOf "11010011100 10110011100 10011001110 1100011101011" into 2 gives accept 2 (105 ∷ 12 ∷ [])) ∷
     (cellsOf "11010011100 11110101110 10110011100 11100101100 1100011101011" into 2 gives refuse 5 3) ∷
@@ -707,10 +781,11 @@ readChecks =
     (cellsOf "11010000100 11101110110 10110111000 10110111000 10011100110 11001110010 11001011100 10001000110 11101011000 1100011101011" into 8
     gives accept 8 (103 ∷ 48 ∷ 42 ∷ 42 ∷ 17 ∷ 18 ∷ 19 ∷ 35 ∷ [])) ∷ []
 
--- The longest row, put together from the crate's patterns; model.py computed the check.
+-- Two of the rows of `longRows`, read.
 unfoldable pub readLong : List Example
 readLong =
-    (cellsOf "11010010000" ++ (times 254 (cellsOf "10100011000") ++ cellsOf "10010111100 1100011101011") into 255 gives accept 255 (104 ∷ replicate 254 33)) ∷ []
+    (cellsOf "11010010000" ++ (times 254 (cellsOf "10100011000") ++ cellsOf "10010111100 1100011101011") into 255 gives accept 255 (104 ∷ replicate 254 33)) ∷
+    (cellsOf "11010010000" ++ (times 255 (cellsOf "10100011000") ++ cellsOf "11000101110 1100011101011") into 256 gives accept 256 (104 ∷ replicate 255 33)) ∷ []
 
 -- ---- e. spell, scan and draw
 
@@ -774,35 +849,42 @@ lists =
 -- "Draw, spell, scan: 10, 13, 5.", by hand; the three jobs give the same answers.
 unfoldable pub badLists : List Example
 badLists =
-    ([] into 0 gives refuse 10 0) ∷ ([] into 2829 gives refuse 10 0) ∷ (103 ∷ replicate 255 33 into 2829 gives refuse 10 256) ∷
-    (replicate 256 106 into 0 gives refuse 10 256) ∷ (replicate 300 0 into 2829 gives refuse 10 300) ∷ (0 ∷ [] into 2829 gives refuse 13 0) ∷
-    (33 ∷ [] into 2829 gives refuse 13 0) ∷ (99 ∷ [] into 0 gives refuse 13 0) ∷ (102 ∷ [] into 2829 gives refuse 13 0) ∷ (106 ∷ [] into 2829 gives refuse 13 0) ∷
-    (255 ∷ [] into 0 gives refuse 13 0) ∷ (102 ∷ 103 ∷ [] into 2829 gives refuse 13 0) ∷ (106 ∷ 106 ∷ [] into 2829 gives refuse 13 0) ∷
-    (103 ∷ 103 ∷ [] into 2829 gives refuse 13 1) ∷ (103 ∷ 104 ∷ 105 ∷ [] into 2829 gives refuse 13 1) ∷ (105 ∷ 106 ∷ [] into 0 gives refuse 13 1) ∷
-    (104 ∷ 255 ∷ [] into 2829 gives refuse 13 1) ∷ (104 ∷ 102 ∷ 103 ∷ [] into 2829 gives refuse 13 2) ∷ (104 ∷ 33 ∷ 41 ∷ 105 ∷ 255 ∷ [] into 0 gives refuse 13 3) ∷
-    (105 ∷ 99 ∷ 98 ∷ 97 ∷ 106 ∷ [] into 2829 gives refuse 13 4) ∷ (104 ∷ replicate 253 33 ++ (103 ∷ []) into 2829 gives refuse 13 254) ∷
-    (0 ∷ replicate 254 33 into 0 gives refuse 13 0) ∷ (replicate 255 103 into 2829 gives refuse 13 1) ∷ []
+    ([] into 0 gives refuse 10 0) ∷ ([] into 44024 gives refuse 10 0) ∷ (103 ∷ replicate 4000 33 into 44024 gives refuse 10 4001) ∷
+    (replicate 4001 106 into 0 gives refuse 10 4001) ∷ (replicate 5000 0 into 44024 gives refuse 10 5000) ∷ (0 ∷ [] into 44024 gives refuse 13 0) ∷
+    (33 ∷ [] into 44024 gives refuse 13 0) ∷ (99 ∷ [] into 0 gives refuse 13 0) ∷ (102 ∷ [] into 44024 gives refuse 13 0) ∷
+    (106 ∷ [] into 44024 gives refuse 13 0) ∷ (255 ∷ [] into 0 gives refuse 13 0) ∷ (102 ∷ 103 ∷ [] into 44024 gives refuse 13 0) ∷
+    (106 ∷ 106 ∷ [] into 44024 gives refuse 13 0) ∷ (103 ∷ 103 ∷ [] into 44024 gives refuse 13 1) ∷ (103 ∷ 104 ∷ 105 ∷ [] into 44024 gives refuse 13 1) ∷
+    (105 ∷ 106 ∷ [] into 0 gives refuse 13 1) ∷ (104 ∷ 255 ∷ [] into 44024 gives refuse 13 1) ∷ (104 ∷ 102 ∷ 103 ∷ [] into 44024 gives refuse 13 2) ∷
+    (104 ∷ 33 ∷ 41 ∷ 105 ∷ 255 ∷ [] into 0 gives refuse 13 3) ∷ (105 ∷ 99 ∷ 98 ∷ 97 ∷ 106 ∷ [] into 44024 gives refuse 13 4) ∷
+    (104 ∷ replicate 253 33 ++ (103 ∷ []) into 44024 gives refuse 13 254) ∷ (0 ∷ replicate 254 33 into 0 gives refuse 13 0) ∷
+    (replicate 255 103 into 44024 gives refuse 13 1) ∷ (replicate 256 106 into 0 gives refuse 13 0) ∷ (replicate 300 0 into 44024 gives refuse 13 0) ∷
+    (104 ∷ replicate 254 33 ++ (103 ∷ []) into 44024 gives refuse 13 255) ∷ (replicate 4000 103 into 44024 gives refuse 13 1) ∷ []
 
 -- Refusal 5 of draw, by hand: a row has 11(n+1)+13 cells.
 unfoldable pub drawShort : List Example
 drawShort =
     (103 ∷ [] into 0 gives refuse 5 35) ∷ (103 ∷ [] into 34 gives refuse 5 35) ∷ (105 ∷ 12 ∷ [] into 45 gives refuse 5 46) ∷
-    (104 ∷ 33 ∷ 41 ∷ 45 ∷ [] into 67 gives refuse 5 68) ∷ (104 ∷ replicate 254 33 into 2828 gives refuse 5 2829) ∷ []
+    (104 ∷ 33 ∷ 41 ∷ 45 ∷ [] into 67 gives refuse 5 68) ∷ (104 ∷ replicate 254 33 into 2828 gives refuse 5 2829) ∷
+    (104 ∷ replicate 255 33 into 2839 gives refuse 5 2840) ∷ []
 
--- Refusal 5 of spell, by hand, and "At most 1 + 2·254 = 509 code points."
+-- Refusal 5 of spell, by hand; "At most 1 + 2·254 = 509 code points" in document 01, and "spelling
+-- 7,999 code points" by request 4.
 unfoldable pub spellShort : List Example
 spellShort =
     (103 ∷ [] into 0 gives refuse 5 1) ∷ (105 ∷ [] into 0 gives refuse 5 1) ∷ (105 ∷ 12 ∷ [] into 2 gives refuse 5 3) ∷ (105 ∷ 102 ∷ [] into 1 gives refuse 5 2) ∷
     (104 ∷ 33 ∷ 41 ∷ 45 ∷ [] into 3 gives refuse 5 4) ∷ (103 ∷ 99 ∷ 12 ∷ [] into 3 gives refuse 5 4) ∷ (105 ∷ replicate 254 0 into 508 gives refuse 5 509) ∷
-    (105 ∷ replicate 254 0 into 509 gives accept 509 (Ć ∷ replicate 508 48)) ∷ []
+    (105 ∷ replicate 254 0 into 509 gives accept 509 (Ć ∷ replicate 508 48)) ∷ (105 ∷ replicate 255 0 into 510 gives refuse 5 511) ∷
+    (105 ∷ replicate 3999 0 into 7999 gives accept 7999 (Ć ∷ replicate 7998 48)) ∷ []
 
--- Refusal 5 of scan, by hand, and empty buffers where nothing is sent.
+-- Refusal 5 of scan, by hand, empty buffers where nothing is sent, and all that 4,000 symbols can
+-- send.
 unfoldable pub scanShort : List Example
 scanShort =
     (103 ∷ [] into 0 gives accept 0 ([])) ∷ (103 ∷ 98 ∷ 102 ∷ [] into 0 gives accept 0 ([])) ∷ (105 ∷ 12 ∷ [] into 1 gives refuse 5 2) ∷
     (105 ∷ 12 ∷ [] into 0 gives refuse 5 2) ∷ (104 ∷ 33 ∷ 41 ∷ 45 ∷ [] into 2 gives refuse 5 3) ∷ (104 ∷ 33 ∷ 102 ∷ [] into 0 gives refuse 5 1) ∷
     (104 ∷ 33 ∷ 102 ∷ [] into 1 gives accept 1 (65 ∷ [])) ∷ (105 ∷ replicate 254 0 into 507 gives refuse 5 508) ∷
-    (105 ∷ replicate 254 0 into 508 gives accept 508 (replicate 508 48)) ∷ []
+    (105 ∷ replicate 254 0 into 508 gives accept 508 (replicate 508 48)) ∷ (105 ∷ replicate 255 0 into 509 gives refuse 5 510) ∷
+    (105 ∷ replicate 3999 0 into 7998 gives accept 7998 (replicate 7998 48)) ∷ []
 
 -- Every number below 96, right after a Shift and then once more without one, in set A and in set B:
 -- by hand from request 1 of document 02, the bytes from the columns of the standard's table.
@@ -881,13 +963,13 @@ shifting =
 
 -- ---- f. the row record
 
--- By hand from "Row record" and "Pack: 10, 11, 5". The first rows are those of "The label program",
--- written with eight cells together.
+-- By hand from "Row record" and "Pack: 10, 11, 5", records of version 1. The first rows are those
+-- of "The label program", written with eight cells together.
 unfoldable pub packings : List Example
 packings =
     (cellsOf "11010000 10011011 00110011 00011101 011" into 7 gives accept 7 (bytesOf "01 01 D0 9B 33 1D 60")) ∷
     (cellsOf "11010000 10011011 00110011 00011101 011" into 6 gives refuse 5 7) ∷ (cellsOf "11010000 10011011 00110011 00011101 011" into 0 gives refuse 5 7) ∷
-    (cellsOf "11010000 10011011 00110011 00011101 011" into 2829 gives accept 7 (bytesOf "01 01 D0 9B 33 1D 60")) ∷
+    (cellsOf "11010000 10011011 00110011 00011101 011" into 44024 gives accept 7 (bytesOf "01 01 D0 9B 33 1D 60")) ∷
     (cellsOf "11010011 10010110 01110010 01100111 01100011 101011" into 8 gives accept 8 (bytesOf "01 02 D3 96 72 67 63 AC")) ∷
     (cellsOf "11010011 10010110 01110010 01100111 01100011 101011" into 7 gives refuse 5 8) ∷
     (replicate 35 0 into 7 gives accept 7 (bytesOf "01 01 00 00 00 00 00")) ∷ (replicate 35 1 into 7 gives accept 7 (bytesOf "01 01 FF FF FF FF E0")) ∷
@@ -895,25 +977,25 @@ packings =
     (1 ∷ replicate 34 0 into 7 gives accept 7 (bytesOf "01 01 80 00 00 00 00")) ∷
     (cellsOf "00000001 00000010 00000100 00001000 000" into 7 gives accept 7 (bytesOf "01 01 01 02 04 08 00")) ∷
     (cellsOf "10101010 01010101 11110000 00001111 101" into 7 gives accept 7 (bytesOf "01 01 AA 55 F0 0F A0")) ∷
-    (replicate 112 1 into 16 gives accept 16 (bytesOf "01 08 FF FF FF FF FF FF FF FF FF FF FF FF FF FF")) ∷ ([] into 2829 gives refuse 10 0) ∷
-    (replicate 24 1 into 2829 gives refuse 10 24) ∷ (replicate 34 2 into 0 gives refuse 10 34) ∷ (replicate 36 0 into 2829 gives refuse 10 36) ∷
-    (replicate 40 0 into 2829 gives refuse 10 40) ∷ (replicate 2830 0 into 2829 gives refuse 10 2830) ∷ (replicate 2840 0 into 2829 gives refuse 10 2840) ∷
+    (replicate 112 1 into 16 gives accept 16 (bytesOf "01 08 FF FF FF FF FF FF FF FF FF FF FF FF FF FF")) ∷ ([] into 44024 gives refuse 10 0) ∷
+    (replicate 24 1 into 44024 gives refuse 10 24) ∷ (replicate 34 2 into 0 gives refuse 10 34) ∷ (replicate 36 0 into 44024 gives refuse 10 36) ∷
+    (replicate 40 0 into 44024 gives refuse 10 40) ∷ (replicate 2830 0 into 44024 gives refuse 10 2830) ∷ (replicate 2839 0 into 44024 gives refuse 10 2839) ∷
     (replicate 35 2 into 0 gives refuse 11 0) ∷ (replicate 34 0 ++ (2 ∷ []) into 0 gives refuse 11 34) ∷ (replicate 46 1 into 0 gives refuse 5 8) ∷
-    (cellsOf "11010000 10011211 00110011 00011101 091" into 2829 gives refuse 11 13) ∷ (255 ∷ replicate 34 7 into 7 gives refuse 11 0) ∷
+    (cellsOf "11010000 10011211 00110011 00011101 091" into 44024 gives refuse 11 13) ∷ (255 ∷ replicate 34 7 into 7 gives refuse 11 0) ∷
     (replicate 2829 0 into 355 gives refuse 5 356) ∷ (replicate 2829 1 into 356 gives accept 356 (1 ∷ 255 ∷ replicate 353 255 ++ (0xF8 ∷ []))) ∷ []
 
--- By hand from "Row record" and "Unpack: 20, 21, 22, 23, 5": each spare bit, count 0, one byte too
--- few and one too many, and the versions 0, 2, 3 and 255.
+-- By hand from "Row record" and "Unpack: 20, 21, 22, 23, 5", records of version 1: each spare bit,
+-- count 0, one byte too few and one too many; and the versions 0, 3, 4 and 255.
 unfoldable pub unpackings : List Example
 unpackings =
     (bytesOf "01 01 D0 9B 33 1D 60" into 35 gives accept 35 (cellsOf "11010000100110110011001100011101011")) ∷
     (bytesOf "01 01 D0 9B 33 1D 60" into 34 gives refuse 5 35) ∷
     (bytesOf "01 02 D3 96 72 67 63 AC" into 46 gives accept 46 (cellsOf "1101001110010110011100100110011101100011101011")) ∷
-    (bytesOf "01 02 D3 96 72 67 63 AC" into 45 gives refuse 5 46) ∷ (bytesOf "01 01 D0 9B 33 1D 61" into 2829 gives refuse 23 6) ∷
-    (bytesOf "01 01 D0 9B 33 1D 62" into 2829 gives refuse 23 6) ∷ (bytesOf "01 01 D0 9B 33 1D 64" into 2829 gives refuse 23 6) ∷
-    (bytesOf "01 01 D0 9B 33 1D 68" into 2829 gives refuse 23 6) ∷ (bytesOf "01 01 D0 9B 33 1D 70" into 2829 gives refuse 23 6) ∷
-    (bytesOf "01 01 D0 9B 33 1D 7F" into 2829 gives refuse 23 6) ∷ (bytesOf "01 02 D3 96 72 67 63 AD" into 2829 gives refuse 23 7) ∷
-    (bytesOf "01 02 D3 96 72 67 63 AE" into 2829 gives refuse 23 7) ∷ (bytesOf "01 02 D3 96 72 67 63 AF" into 2829 gives refuse 23 7) ∷
+    (bytesOf "01 02 D3 96 72 67 63 AC" into 45 gives refuse 5 46) ∷ (bytesOf "01 01 D0 9B 33 1D 61" into 44024 gives refuse 23 6) ∷
+    (bytesOf "01 01 D0 9B 33 1D 62" into 44024 gives refuse 23 6) ∷ (bytesOf "01 01 D0 9B 33 1D 64" into 44024 gives refuse 23 6) ∷
+    (bytesOf "01 01 D0 9B 33 1D 68" into 44024 gives refuse 23 6) ∷ (bytesOf "01 01 D0 9B 33 1D 70" into 44024 gives refuse 23 6) ∷
+    (bytesOf "01 01 D0 9B 33 1D 7F" into 44024 gives refuse 23 6) ∷ (bytesOf "01 02 D3 96 72 67 63 AD" into 44024 gives refuse 23 7) ∷
+    (bytesOf "01 02 D3 96 72 67 63 AE" into 44024 gives refuse 23 7) ∷ (bytesOf "01 02 D3 96 72 67 63 AF" into 44024 gives refuse 23 7) ∷
     (bytesOf "01 01 D0 9B 33 1D 61" into 0 gives refuse 23 6) ∷
     (bytesOf "01 01 00 00 00 00 20" into 35 gives accept 35 (cellsOf "00000000000000000000000000000000001")) ∷
     (bytesOf "01 01 80 00 00 00 00" into 35 gives accept 35 (cellsOf "10000000000000000000000000000000000")) ∷
@@ -921,18 +1003,18 @@ unpackings =
     (bytesOf "01 01 01 02 04 08 00" into 35 gives accept 35 (cellsOf "00000001000000100000010000001000000")) ∷
     (bytesOf "01 08 FF FF FF FF FF FF FF FF FF FF FF FF FF FF" into 112 gives accept 112 (replicate 112 1)) ∷
     (bytesOf "01 08 FF FF FF FF FF FF FF FF FF FF FF FF FF FF" into 111 gives refuse 5 112) ∷
-    (bytesOf "01 08 FF FF FF FF FF FF FF FF FF FF FF FF FF FF FF" into 112 gives refuse 22 16) ∷ ([] into 2829 gives refuse 20 0) ∷
-    (0 ∷ [] into 0 gives refuse 20 1) ∷ (2 ∷ [] into 2829 gives refuse 20 1) ∷ (bytesOf "00 01 D0 9B 33 1D 60" into 35 gives refuse 21 0) ∷
-    (bytesOf "02 01 D0 9B 33 1D 60" into 35 gives refuse 21 2) ∷ (bytesOf "FF 01 D0 9B 33 1D 60" into 0 gives refuse 21 255) ∷
-    (bytesOf "02 00" into 35 gives refuse 21 2) ∷ (bytesOf "00 00" into 35 gives refuse 21 0) ∷ (bytesOf "03 01 D0 9B 33 1D 61" into 35 gives refuse 21 3) ∷
+    (bytesOf "01 08 FF FF FF FF FF FF FF FF FF FF FF FF FF FF FF" into 112 gives refuse 22 16) ∷ ([] into 44024 gives refuse 20 0) ∷
+    (0 ∷ [] into 0 gives refuse 20 1) ∷ (2 ∷ [] into 44024 gives refuse 20 1) ∷ (bytesOf "00 01 D0 9B 33 1D 60" into 35 gives refuse 21 0) ∷
+    (bytesOf "04 01 D0 9B 33 1D 60" into 35 gives refuse 21 4) ∷ (bytesOf "FF 01 D0 9B 33 1D 60" into 0 gives refuse 21 255) ∷
+    (bytesOf "03 00" into 35 gives refuse 21 3) ∷ (bytesOf "00 00" into 35 gives refuse 21 0) ∷ (bytesOf "03 01 D0 9B 33 1D 61" into 35 gives refuse 21 3) ∷
     (bytesOf "01 00 00" into 35 gives refuse 22 0) ∷ (bytesOf "01 00 00 00 00" into 35 gives refuse 22 0) ∷ (bytesOf "01 00 FF FF FF" into 0 gives refuse 22 0) ∷
     (bytesOf "01 01" into 35 gives refuse 22 7) ∷ (bytesOf "01 01 D0 9B 33 1D" into 35 gives refuse 22 7) ∷
     (bytesOf "01 01 D0 9B 33 1D 60 00" into 35 gives refuse 22 7) ∷ (bytesOf "01 01 D0 9B 33 1D 60 FF" into 0 gives refuse 22 7) ∷
     (bytesOf "01 02 D0 9B 33 1D 60" into 46 gives refuse 22 8) ∷ (bytesOf "01 01 D3 96 72 67 63 AC" into 46 gives refuse 22 7) ∷
     (bytesOf "01 01 D0 9B 33 1D" into 0 gives refuse 22 7) ∷ (bytesOf "01 03" into 0 gives refuse 22 10) ∷ (bytesOf "01 08" into 0 gives refuse 22 16) ∷
-    (bytesOf "01 FE" into 2829 gives refuse 22 355) ∷ (bytesOf "01 FF" into 2829 gives refuse 22 356) ∷ (1 ∷ 255 ∷ replicate 353 0 into 2829 gives refuse 22 356) ∷
-    (1 ∷ 255 ∷ replicate 355 0 into 2829 gives refuse 22 356) ∷ (1 ∷ 255 ∷ replicate 354 0 into 2828 gives refuse 5 2829) ∷
-    (1 ∷ 255 ∷ replicate 353 0 ++ (4 ∷ []) into 2829 gives refuse 23 355) ∷
+    (bytesOf "01 FE" into 44024 gives refuse 22 355) ∷ (bytesOf "01 FF" into 44024 gives refuse 22 356) ∷
+    (1 ∷ 255 ∷ replicate 353 0 into 44024 gives refuse 22 356) ∷ (1 ∷ 255 ∷ replicate 355 0 into 44024 gives refuse 22 356) ∷
+    (1 ∷ 255 ∷ replicate 354 0 into 2828 gives refuse 5 2829) ∷ (1 ∷ 255 ∷ replicate 353 0 ++ (4 ∷ []) into 44024 gives refuse 23 355) ∷
     (1 ∷ 255 ∷ replicate 353 255 ++ (0xF8 ∷ []) into 2829 gives accept 2829 (replicate 2829 1)) ∷ []
 
 -- ---- g. Ź inside a pair
@@ -978,12 +1060,17 @@ buffers =
     (calls scan (103 ∷ 106 ∷ []) (8 ∷ 9 ∷ []) 13 1 (8 ∷ 9 ∷ [])) ∷ (calls scan (103 ∷ 98 ∷ 65 ∷ []) (8 ∷ 8 ∷ 9 ∷ []) 0 1 (97 ∷ 8 ∷ 9 ∷ [])) ∷
     (calls scan (104 ∷ 98 ∷ 65 ∷ 65 ∷ []) (8 ∷ 9 ∷ []) 0 2 (1 ∷ 97 ∷ [])) ∷ (calls scan (104 ∷ 98 ∷ 65 ∷ 65 ∷ []) (8 ∷ []) 5 2 (8 ∷ [])) ∷
     (calls pack (replicate 35 1) (0 ∷ 0 ∷ 0 ∷ 0 ∷ 0 ∷ 0 ∷ 0 ∷ 77 ∷ []) 0 7 (bytesOf "01 01 FF FF FF FF E0 4D")) ∷
-    (calls unpack (bytesOf "01 01 00 00 00 00 00") (replicate 36 5) 0 35 (replicate 35 0 ++ (5 ∷ []))) ∷ (calls unpack (bytesOf "01 00") (6 ∷ []) 22 0 (6 ∷ [])) ∷ []
+    (calls unpack (bytesOf "01 01 00 00 00 00 00") (replicate 36 5) 0 35 (replicate 35 0 ++ (5 ∷ []))) ∷ (calls unpack (bytesOf "01 00") (6 ∷ []) 22 0 (6 ∷ [])) ∷
+    (calls pack (replicate 2840 1) (replicate 360 7) 0 358 (2 ∷ 1 ∷ 0 ∷ replicate 355 255 ++ (7 ∷ 7 ∷ []))) ∷
+    (calls pack (replicate 2840 1) (replicate 357 7) 5 358 (replicate 357 7)) ∷
+    (calls unpack (2 ∷ 1 ∷ 0 ∷ replicate 355 0) (replicate 2841 5) 0 2840 (replicate 2840 0 ++ (5 ∷ []))) ∷
+    (calls unpack (bytesOf "02 01") (6 ∷ 6 ∷ []) 22 0 (6 ∷ 6 ∷ [])) ∷ (calls unpack (bytesOf "02 01 00") (6 ∷ 6 ∷ []) 22 358 (6 ∷ 6 ∷ [])) ∷ []
 
 -- ---- i. one block drawn over
 
--- By hand: refusal 13 where the new number may not stand; an acceptance at the data places 103 and
--- 206, whose weight is 0 modulo 103; and otherwise refusal 14 with the check of the changed list.
+-- By hand: refusal 13 where the new number may not stand; an acceptance at the data places 103, 206
+-- and 309, whose weight is 0 modulo 103; and otherwise refusal 14 with the check of the changed
+-- list.
 unfoldable pub redrawings : List Redrawn
 redrawings =
     ((103 ∷ []) at 0 drawn 104 gives refuse 14 1) ∷ ((103 ∷ []) at 0 drawn 105 gives refuse 14 2) ∷ ((103 ∷ []) at 0 drawn 0 gives refuse 13 0) ∷
@@ -992,9 +1079,9 @@ redrawings =
     ((105 ∷ 12 ∷ []) at 0 drawn 14 gives refuse 13 0) ∷ ((105 ∷ 12 ∷ []) at 1 drawn 13 gives refuse 14 15) ∷ ((105 ∷ 12 ∷ []) at 1 drawn 102 gives refuse 14 1) ∷
     ((105 ∷ 12 ∷ []) at 1 drawn 105 gives refuse 13 1) ∷ ((105 ∷ 12 ∷ []) at 2 drawn 12 gives refuse 14 14) ∷ ((105 ∷ 12 ∷ []) at 2 drawn 105 gives refuse 13 2) ∷
     ((104 ∷ 33 ∷ 41 ∷ 45 ∷ []) at 2 drawn 42 gives refuse 14 47) ∷ ((104 ∷ 33 ∷ 41 ∷ 45 ∷ []) at 3 drawn 0 gives refuse 14 13) ∷
-    ((104 ∷ 33 ∷ 41 ∷ 45 ∷ []) at 4 drawn 104 gives refuse 13 4) ∷
-    ((104 ∷ replicate 103 33) at 103 drawn 65 gives accept 104 (104 ∷ replicate 102 33 ++ (65 ∷ []))) ∷
-    ((104 ∷ replicate 102 33) at 103 drawn 65 gives refuse 14 1) ∷ ((104 ∷ replicate 206 33) at 206 drawn 0 gives accept 207 (104 ∷ replicate 205 33 ++ (0 ∷ []))) ∷ []
+    ((104 ∷ 33 ∷ 41 ∷ 45 ∷ []) at 4 drawn 104 gives refuse 13 4) ∷ ((104 ∷ replicate 103 1) at 103 drawn 65 gives accept 104 (104 ∷ replicate 102 1 ++ (65 ∷ []))) ∷
+    ((104 ∷ replicate 102 1) at 103 drawn 65 gives refuse 14 1) ∷ ((104 ∷ replicate 206 1) at 206 drawn 0 gives accept 207 (104 ∷ replicate 205 1 ++ (0 ∷ []))) ∷
+    ((104 ∷ replicate 309 1) at 309 drawn 65 gives accept 310 (104 ∷ replicate 308 1 ++ (65 ∷ []))) ∷ []
 
 -- ---- j. one cell flipped
 
@@ -1031,25 +1118,25 @@ flippings =
 unfoldable pub fnc2Refused : List Example
 fnc2Refused =
     (points "Ɓź" into 0 gives refuse 19 1) ∷ (points "Ɓź" into 34 gives refuse 19 1) ∷ (points "Ɓź" into 35 gives refuse 19 1) ∷
-    (points "Ɓź" into 45 gives refuse 19 1) ∷ (points "Ɓź" into 46 gives refuse 19 1) ∷ (points "Ɓź" into 2829 gives refuse 19 1) ∷
-    (points "Àź" into 2829 gives refuse 19 1) ∷ (points "ƁAźź" into 2829 gives refuse 19 2) ∷ (points "ÀźźźA" into 2829 gives refuse 19 1) ∷
-    (points "ĆƁź" into 2829 gives refuse 19 2) ∷ (points "ĆÀź" into 2829 gives refuse 19 2) ∷ (points "Ć97Ɓź" into 2829 gives refuse 19 4) ∷
-    (points "ÀĆ9797Ɓź" into 2829 gives refuse 19 7) ∷ (points "Ć1Ź2Àź" into 2829 gives refuse 19 5) ∷ (points "ƁźĆ12" into 2829 gives refuse 19 1) ∷
-    (points "ÀƁź" into 2829 gives refuse 19 2) ∷ (points "ƁÀź" into 2829 gives refuse 19 2) ∷ (points "ÀźƁź" into 2829 gives refuse 19 1) ∷
-    (points "ƁŽź" into 2829 gives refuse 19 2) ∷ (points "Ɓ÷÷ź" into 2829 gives refuse 19 3) ∷ (points "ƁŹŻŽżź" into 2829 gives refuse 19 5) ∷
-    (points "ƁźĆ12Ź" into 2829 gives refuse 19 1) ∷ (Ɓ ∷ 0x17A ∷ 0xD800 ∷ [] into 2829 gives refuse 1 2) ∷
-    (Ɓ ∷ 0x17A ∷ 0x110000 ∷ 0x17A ∷ [] into 0 gives refuse 1 2) ∷ (0x17A ∷ 0xDFFF ∷ [] into 2829 gives refuse 1 1) ∷
-    (Ɓ ∷ 0x17A ∷ replicate 300 65 ++ (0xD800 ∷ []) into 2829 gives refuse 1 302) ∷ (points "ź" into 2829 gives refuse 3 0) ∷
-    (points "źƁ" into 2829 gives refuse 3 0) ∷ (points "Ćź" into 2829 gives refuse 3 1) ∷ (points "Ć12ź" into 2829 gives refuse 3 3) ∷
-    (points "ƁĆź" into 2829 gives refuse 3 2) ∷ (points "ÀĆ97ź" into 2829 gives refuse 3 4) ∷ (points "ƁźĆź" into 2829 gives refuse 3 3) ∷
-    (points "Ɓź€" into 2829 gives refuse 3 2) ∷ (points "Ɓ€ź" into 2829 gives refuse 3 1) ∷ (points "Àźa" into 2829 gives refuse 3 2) ∷
-    (points "ƁźƁ" into 2829 gives refuse 3 2) ∷ (points "ÀźÀ" into 2829 gives refuse 3 2) ∷ (points "Ć1ź" into 2829 gives refuse 3 2) ∷
-    (points "Ć1ź2" into 2829 gives refuse 3 2) ∷ (points "Ć1Źź2" into 2829 gives refuse 3 3) ∷ (points "ƁźĆ1À" into 2829 gives refuse 3 4) ∷
-    (points "ƁźĆ1" into 2829 gives refuse 3 4) ∷ (points "ƁźĆ1Ź" into 2829 gives refuse 3 5) ∷ (points "ÀźĆ123" into 2829 gives refuse 3 6) ∷
-    (points "Ɓź€" into 0 gives refuse 3 2) ∷ (Ɓ ∷ 0x17A ∷ replicate 300 65 ++ (0x20AC ∷ []) into 2829 gives refuse 3 302) ∷
+    (points "Ɓź" into 45 gives refuse 19 1) ∷ (points "Ɓź" into 46 gives refuse 19 1) ∷ (points "Ɓź" into 44024 gives refuse 19 1) ∷
+    (points "Àź" into 44024 gives refuse 19 1) ∷ (points "ƁAźź" into 44024 gives refuse 19 2) ∷ (points "ÀźźźA" into 44024 gives refuse 19 1) ∷
+    (points "ĆƁź" into 44024 gives refuse 19 2) ∷ (points "ĆÀź" into 44024 gives refuse 19 2) ∷ (points "Ć97Ɓź" into 44024 gives refuse 19 4) ∷
+    (points "ÀĆ9797Ɓź" into 44024 gives refuse 19 7) ∷ (points "Ć1Ź2Àź" into 44024 gives refuse 19 5) ∷ (points "ƁźĆ12" into 44024 gives refuse 19 1) ∷
+    (points "ÀƁź" into 44024 gives refuse 19 2) ∷ (points "ƁÀź" into 44024 gives refuse 19 2) ∷ (points "ÀźƁź" into 44024 gives refuse 19 1) ∷
+    (points "ƁŽź" into 44024 gives refuse 19 2) ∷ (points "Ɓ÷÷ź" into 44024 gives refuse 19 3) ∷ (points "ƁŹŻŽżź" into 44024 gives refuse 19 5) ∷
+    (points "ƁźĆ12Ź" into 44024 gives refuse 19 1) ∷ (Ɓ ∷ 0x17A ∷ 0xD800 ∷ [] into 44024 gives refuse 1 2) ∷
+    (Ɓ ∷ 0x17A ∷ 0x110000 ∷ 0x17A ∷ [] into 0 gives refuse 1 2) ∷ (0x17A ∷ 0xDFFF ∷ [] into 44024 gives refuse 1 1) ∷
+    (Ɓ ∷ 0x17A ∷ replicate 300 65 ++ (0xD800 ∷ []) into 44024 gives refuse 1 302) ∷ (points "ź" into 44024 gives refuse 3 0) ∷
+    (points "źƁ" into 44024 gives refuse 3 0) ∷ (points "Ćź" into 44024 gives refuse 3 1) ∷ (points "Ć12ź" into 44024 gives refuse 3 3) ∷
+    (points "ƁĆź" into 44024 gives refuse 3 2) ∷ (points "ÀĆ97ź" into 44024 gives refuse 3 4) ∷ (points "ƁźĆź" into 44024 gives refuse 3 3) ∷
+    (points "Ɓź€" into 44024 gives refuse 3 2) ∷ (points "Ɓ€ź" into 44024 gives refuse 3 1) ∷ (points "Àźa" into 44024 gives refuse 3 2) ∷
+    (points "ƁźƁ" into 44024 gives refuse 3 2) ∷ (points "ÀźÀ" into 44024 gives refuse 3 2) ∷ (points "Ć1ź" into 44024 gives refuse 3 2) ∷
+    (points "Ć1ź2" into 44024 gives refuse 3 2) ∷ (points "Ć1Źź2" into 44024 gives refuse 3 3) ∷ (points "ƁźĆ1À" into 44024 gives refuse 3 4) ∷
+    (points "ƁźĆ1" into 44024 gives refuse 3 4) ∷ (points "ƁźĆ1Ź" into 44024 gives refuse 3 5) ∷ (points "ÀźĆ123" into 44024 gives refuse 3 6) ∷
+    (points "Ɓź€" into 0 gives refuse 3 2) ∷ (Ɓ ∷ 0x17A ∷ replicate 300 65 ++ (0x20AC ∷ []) into 44024 gives refuse 3 302) ∷
     (Ɓ ∷ 0x17A ∷ replicate 253 65 into 0 gives refuse 19 1) ∷ (Ɓ ∷ replicate 253 65 ++ (0x17A ∷ []) into 2828 gives refuse 19 254) ∷
-    (Ɓ ∷ replicate 254 65 ++ (0x17A ∷ []) into 2829 gives refuse 19 255) ∷ (Ɓ ∷ 0x17A ∷ replicate 254 65 into 2829 gives refuse 19 1) ∷
-    (Ć ∷ replicate 510 48 ++ (Ɓ ∷ 0x17A ∷ []) into 0 gives refuse 19 512) ∷ (À ∷ replicate 255 0x17A into 0 gives refuse 19 1) ∷ []
+    (Ɓ ∷ replicate 254 65 ++ (0x17A ∷ []) into 44024 gives refuse 19 255) ∷ (Ɓ ∷ 0x17A ∷ replicate 254 65 into 44024 gives refuse 19 1) ∷
+    (Ć ∷ replicate 510 48 ++ (Ɓ ∷ 0x17A ∷ []) into 0 gives refuse 19 512) ∷ (À ∷ replicate 4000 0x17A into 0 gives refuse 19 1) ∷ []
 
 -- Document 01's encoder, before request 12, by hand: ź is 97 in sets A and B. The checks are
 -- 104+97=201, 103+97=200, 104+33+2·97+3·97=622, 105+100+2·97=399 and 105+97+2·100+3·97=693, all
@@ -1062,8 +1149,9 @@ fnc2Before =
     (points "ĆƁź" into 57 gives accept 3 (cellsOf "11010011100 10111101110 11110101000 11011110110 1100011101011")) ∷
     (points "Ć97Ɓź" into 68 gives accept 4 (cellsOf "11010011100 11110101000 10111101110 11110101000 11000010010 1100011101011")) ∷
     (points "Ɓź" into 0 gives refuse 5 46) ∷ (points "Ɓź" into 34 gives refuse 5 46) ∷ (points "Ɓź" into 35 gives refuse 5 46) ∷
-    (points "Ɓź" into 45 gives refuse 5 46) ∷ (points "Ćź" into 2829 gives refuse 3 1) ∷ (points "Ɓź€" into 0 gives refuse 3 2) ∷
-    (points "ƁźĆ1" into 2829 gives refuse 3 4) ∷ (Ɓ ∷ 0x17A ∷ 0xD800 ∷ [] into 2829 gives refuse 1 2) ∷ (Ɓ ∷ 0x17A ∷ replicate 254 65 into 0 gives refuse 4 256) ∷
+    (points "Ɓź" into 45 gives refuse 5 46) ∷ (points "Ćź" into 44024 gives refuse 3 1) ∷ (points "Ɓź€" into 0 gives refuse 3 2) ∷
+    (points "ƁźĆ1" into 44024 gives refuse 3 4) ∷ (Ɓ ∷ 0x17A ∷ 0xD800 ∷ [] into 44024 gives refuse 1 2) ∷
+    (Ɓ ∷ 0x17A ∷ replicate 3999 65 into 0 gives refuse 4 4001) ∷ (Ɓ ∷ 0x17A ∷ replicate 254 65 into 2839 gives refuse 5 2840) ∷
     (Ɓ ∷ 0x17A ∷ replicate 253 65 into 2828 gives refuse 5 2829) ∷ []
 
 -- Labels without ź that are still accepted, by hand, and that document 01's encoder answers alike:
@@ -1100,9 +1188,9 @@ fnc2Rows =
     (cellsOf "11010011100 11110101000 10111101110 11110101000 11000010010 1100011101011" into 4 gives accept 4 (105 ∷ 97 ∷ 100 ∷ 97 ∷ [])) ∷
     (cellsOf "11010011100 11110101000 10111101110 11110101000 11000010010 1100011101011" into 0 gives refuse 5 4) ∷
     (cellsOf "11010000100 11110101000 10111011110 11110101000 10011010000 1100011101011" into 4 gives accept 4 (103 ∷ 97 ∷ 99 ∷ 97 ∷ [])) ∷
-    (cellsOf "11110101000 11110101000 11110100010 1100011101011" into 255 gives refuse 13 0) ∷
-    (cellsOf "11010010000 11100101000 11110100010 1100011101011" into 255 gives refuse 16 1) ∷
-    (cellsOf "11010010000 11110101000 11110100010 1100111101011" into 255 gives refuse 15 37) ∷ []
+    (cellsOf "11110101000 11110101000 11110100010 1100011101011" into 4000 gives refuse 13 0) ∷
+    (cellsOf "11010010000 11100101000 11110100010 1100011101011" into 4000 gives refuse 16 1) ∷
+    (cellsOf "11010010000 11110101000 11110100010 1100111101011" into 4000 gives refuse 15 37) ∷ []
 
 -- Lists with 97 in set A, B or C, with the label that spell writes and the bytes that scan sends,
 -- by hand from document 01 and requests 1 and 12 of document 02; the row is what the crate writes
@@ -1149,11 +1237,108 @@ exchangings =
     ((104 ∷ 33 ∷ 41 ∷ 45 ∷ []) between 1 and 3 gives refuse 14 21 short refuse 14 21) ∷
     ((103 ∷ 0 ∷ 102 ∷ []) between 1 and 2 gives refuse 14 102 short refuse 14 102) ∷
     ((103 ∷ 102 ∷ 0 ∷ []) between 1 and 2 gives refuse 14 101 short refuse 14 101) ∷
-    ((104 ∷ 1 ∷ replicate 102 33 ++ (2 ∷ [])) between 103 and 104 gives refuse 14 2 short refuse 14 2) ∷
-    ((104 ∷ 1 ∷ replicate 102 33 ++ (2 ∷ [])) between 1 and 104 gives accept 105 (104 ∷ 2 ∷ replicate 102 33 ++ (1 ∷ [])) short refuse 5 105) ∷
-    ((104 ∷ 1 ∷ replicate 205 33 ++ (2 ∷ [])) between 1 and 207 gives accept 208 (104 ∷ 2 ∷ replicate 205 33 ++ (1 ∷ [])) short refuse 5 208) ∷ []
+    ((104 ∷ 1 ∷ replicate 102 1 ++ (2 ∷ [])) between 103 and 104 gives refuse 14 2 short refuse 14 2) ∷
+    ((104 ∷ 1 ∷ replicate 102 1 ++ (2 ∷ [])) between 1 and 104 gives accept 105 (104 ∷ 2 ∷ replicate 102 1 ++ (1 ∷ [])) short refuse 5 105) ∷
+    ((104 ∷ 1 ∷ replicate 205 1 ++ (2 ∷ [])) between 1 and 207 gives accept 208 (104 ∷ 2 ∷ replicate 205 1 ++ (1 ∷ [])) short refuse 5 208) ∷ []
+
+-- ---- m. up to 4,000 symbols
+
+-- By hand from request 4 of document 02, "The limit becomes 4,000 everywhere, rows 44,024 cells":
+-- which lengths of a list and of a row are possible.
+unfoldable pub sizes : List Size
+sizes =
+    (0 symbolsFit false) ∷ (1 symbolsFit true) ∷ (255 symbolsFit true) ∷ (256 symbolsFit true) ∷ (3999 symbolsFit true) ∷ (4000 symbolsFit true) ∷
+    (4001 symbolsFit false) ∷ (65535 symbolsFit false) ∷ (0 cellsFit false) ∷ (24 cellsFit false) ∷ (34 cellsFit false) ∷ (35 cellsFit true) ∷ (36 cellsFit false) ∷
+    (46 cellsFit true) ∷ (2828 cellsFit false) ∷ (2829 cellsFit true) ∷ (2830 cellsFit false) ∷ (2839 cellsFit false) ∷ (2840 cellsFit true) ∷
+    (2841 cellsFit false) ∷ (44013 cellsFit true) ∷ (44023 cellsFit false) ∷ (44024 cellsFit true) ∷ (44025 cellsFit false) ∷ (44034 cellsFit false) ∷
+    (44035 cellsFit false) ∷ (44036 cellsFit false) ∷ (44046 cellsFit false) ∷ []
+
+-- A label of 4,000 symbols, by hand: its row fits 44,024 cells. The cells are left out, so that
+-- this is quickly computed; the crate writes the row that model.py writes.
+unfoldable pub longest : List Example
+longest =
+    (Ɓ ∷ replicate 3999 65 into 44024 gives accept 4000 []) ∷ []
+
+-- Checks of a START and k equal numbers m, by hand: START + m·k(k+1)/2 modulo 103. The last has the
+-- largest sum of all, 815,796,105.
+unfoldable pub longChecks : List Checked
+longChecks =
+    ((104 ∷ replicate 254 33) checks 81) ∷ ((104 ∷ replicate 255 33) checks 50) ∷ ((104 ∷ replicate 3999 33) checks 3) ∷ ((103 ∷ replicate 3999 0) checks 0) ∷
+    ((103 ∷ replicate 3999 1) checks 50) ∷ ((104 ∷ replicate 3999 99) checks 7) ∷ ((105 ∷ replicate 3998 102) checks 37) ∷ ((105 ∷ replicate 3999 102) checks 55) ∷ []
+
+-- By hand from request 4, "Up to 255 symbols are still packed as version 1 … more as version 2":
+-- the first bytes of the record of n symbols, and the record's length.
+unfoldable pub heads : List Headed
+heads =
+    (1 packedAfter 1 ∷ 1 ∷ [] long 7) ∷ (8 packedAfter 1 ∷ 8 ∷ [] long 16) ∷ (254 packedAfter 1 ∷ 254 ∷ [] long 355) ∷ (255 packedAfter 1 ∷ 255 ∷ [] long 356) ∷
+    (256 packedAfter 2 ∷ 1 ∷ 0 ∷ [] long 358) ∷ (257 packedAfter 2 ∷ 1 ∷ 1 ∷ [] long 360) ∷ (511 packedAfter 2 ∷ 1 ∷ 255 ∷ [] long 709) ∷
+    (512 packedAfter 2 ∷ 2 ∷ 0 ∷ [] long 710) ∷ (1000 packedAfter 2 ∷ 3 ∷ 232 ∷ [] long 1381) ∷ (3999 packedAfter 2 ∷ 15 ∷ 159 ∷ [] long 5505) ∷
+    (4000 packedAfter 2 ∷ 15 ∷ 160 ∷ [] long 5506) ∷ []
+
+-- Records of version 2, by hand from request 4: rows of 256 and 257 symbols. At 256
+-- there is no spare bit, at 257 there are five.
+unfoldable pub secondPackings : List Example
+secondPackings =
+    (replicate 2840 0 into 358 gives accept 358 (2 ∷ 1 ∷ 0 ∷ replicate 355 0)) ∷ (replicate 2840 1 into 358 gives accept 358 (2 ∷ 1 ∷ 0 ∷ replicate 355 255)) ∷
+    (times 355 (cellsOf "11010010") into 44024 gives accept 358 (2 ∷ 1 ∷ 0 ∷ replicate 355 0xD2)) ∷ (times 355 (cellsOf "11010010") into 357 gives refuse 5 358) ∷
+    (times 355 (cellsOf "11010010") into 356 gives refuse 5 358) ∷ (times 355 (cellsOf "11010010") into 0 gives refuse 5 358) ∷
+    (times 356 (cellsOf "11010010") ++ (cellsOf "101") into 360 gives accept 360 (2 ∷ 1 ∷ 1 ∷ replicate 356 0xD2 ++ (0xA0 ∷ []))) ∷
+    (times 356 (cellsOf "11010010") ++ (cellsOf "101") into 359 gives refuse 5 360) ∷
+    (replicate 2851 1 into 360 gives accept 360 (2 ∷ 1 ∷ 1 ∷ replicate 356 255 ++ (0xE0 ∷ []))) ∷ (replicate 2839 0 ++ (2 ∷ []) into 0 gives refuse 11 2839) ∷
+    (replicate 2841 2 into 0 gives refuse 10 2841) ∷ []
+
+-- By hand from request 4: "21 now means neither 1 nor 2; 22 also for that small count, for a count
+-- above 4,000 and for a version 2 record under 3 bytes, each with 0". Among the counts are 256 and
+-- 4,000 with their bytes the wrong way round.
+unfoldable pub secondUnpackings : List Example
+secondUnpackings =
+    (2 ∷ [] into 0 gives refuse 20 1) ∷ (2 ∷ 0 ∷ [] into 0 gives refuse 22 0) ∷ (2 ∷ 1 ∷ [] into 0 gives refuse 22 0) ∷ (2 ∷ 15 ∷ [] into 0 gives refuse 22 0) ∷
+    (2 ∷ 255 ∷ [] into 0 gives refuse 22 0) ∷ (2 ∷ 0 ∷ 0 ∷ [] into 0 gives refuse 22 0) ∷ (2 ∷ 0 ∷ 1 ∷ [] into 0 gives refuse 22 0) ∷
+    (2 ∷ 0 ∷ 254 ∷ [] into 0 gives refuse 22 0) ∷ (2 ∷ 0 ∷ 255 ∷ [] into 0 gives refuse 22 0) ∷ (2 ∷ 15 ∷ 161 ∷ [] into 0 gives refuse 22 0) ∷
+    (2 ∷ 16 ∷ 0 ∷ [] into 0 gives refuse 22 0) ∷ (2 ∷ 160 ∷ 15 ∷ [] into 0 gives refuse 22 0) ∷ (2 ∷ 255 ∷ 255 ∷ [] into 0 gives refuse 22 0) ∷
+    (2 ∷ 0 ∷ 1 ∷ replicate 5 0 into 35 gives refuse 22 0) ∷ (2 ∷ 0 ∷ 255 ∷ replicate 354 0 into 44024 gives refuse 22 0) ∷
+    (2 ∷ 0 ∷ 1 ∷ replicate 355 0 into 44024 gives refuse 22 0) ∷ (2 ∷ 0 ∷ 0 ∷ replicate 3 0 into 44024 gives refuse 22 0) ∷
+    (2 ∷ 15 ∷ 161 ∷ replicate 5505 0 into 44024 gives refuse 22 0) ∷ (2 ∷ 1 ∷ 0 ∷ [] into 0 gives refuse 22 358) ∷ (2 ∷ 1 ∷ 1 ∷ [] into 0 gives refuse 22 360) ∷
+    (2 ∷ 1 ∷ 255 ∷ [] into 0 gives refuse 22 709) ∷ (2 ∷ 2 ∷ 0 ∷ [] into 0 gives refuse 22 710) ∷ (2 ∷ 15 ∷ 159 ∷ [] into 0 gives refuse 22 5505) ∷
+    (2 ∷ 15 ∷ 160 ∷ [] into 0 gives refuse 22 5506) ∷ (2 ∷ 1 ∷ 208 ∷ [] into 0 gives refuse 22 644) ∷ (2 ∷ 1 ∷ 0 ∷ replicate 354 0 into 44024 gives refuse 22 358) ∷
+    (2 ∷ 1 ∷ 0 ∷ replicate 356 0 into 44024 gives refuse 22 358) ∷ (1 ∷ 1 ∷ 0 ∷ replicate 355 0 into 44024 gives refuse 22 7) ∷
+    (2 ∷ 1 ∷ 1 ∷ replicate 356 255 into 44024 gives refuse 22 360) ∷ (2 ∷ 1 ∷ 1 ∷ replicate 358 255 into 0 gives refuse 22 360) ∷
+    (2 ∷ 15 ∷ 160 ∷ replicate 5502 0 into 44024 gives refuse 22 5506) ∷ (0 ∷ 1 ∷ [] into 44024 gives refuse 21 0) ∷ (3 ∷ 1 ∷ [] into 44024 gives refuse 21 3) ∷
+    (3 ∷ 9 ∷ [] into 44024 gives refuse 21 3) ∷ (3 ∷ 1 ∷ 0 ∷ [] into 44024 gives refuse 21 3) ∷ (255 ∷ 15 ∷ 161 ∷ [] into 44024 gives refuse 21 255) ∷
+    (3 ∷ 1 ∷ 0 ∷ replicate 355 0 into 44024 gives refuse 21 3) ∷ (2 ∷ 1 ∷ 0 ∷ replicate 355 0 into 2840 gives accept 2840 (replicate 2840 0)) ∷
+    (2 ∷ 1 ∷ 0 ∷ replicate 355 255 into 2840 gives accept 2840 (replicate 2840 1)) ∷
+    (2 ∷ 1 ∷ 0 ∷ replicate 355 0xD2 into 44024 gives accept 2840 (times 355 (cellsOf "11010010"))) ∷
+    (2 ∷ 1 ∷ 0 ∷ replicate 355 0xD2 into 2839 gives refuse 5 2840) ∷
+    (2 ∷ 1 ∷ 1 ∷ replicate 356 0xD2 ++ (0xA0 ∷ []) into 2851 gives accept 2851 (times 356 (cellsOf "11010010") ++ (cellsOf "101"))) ∷
+    (2 ∷ 1 ∷ 1 ∷ replicate 356 0xD2 ++ (0xA0 ∷ []) into 2850 gives refuse 5 2851) ∷ (2 ∷ 1 ∷ 1 ∷ replicate 356 0 ++ (1 ∷ []) into 44024 gives refuse 23 359) ∷
+    (2 ∷ 1 ∷ 1 ∷ replicate 356 0 ++ (2 ∷ []) into 44024 gives refuse 23 359) ∷ (2 ∷ 1 ∷ 1 ∷ replicate 356 0 ++ (4 ∷ []) into 44024 gives refuse 23 359) ∷
+    (2 ∷ 1 ∷ 1 ∷ replicate 356 0 ++ (8 ∷ []) into 44024 gives refuse 23 359) ∷ (2 ∷ 1 ∷ 1 ∷ replicate 356 0 ++ (16 ∷ []) into 44024 gives refuse 23 359) ∷
+    (2 ∷ 1 ∷ 1 ∷ replicate 356 0 ++ (31 ∷ []) into 44024 gives refuse 23 359) ∷ (2 ∷ 1 ∷ 1 ∷ replicate 357 255 into 0 gives refuse 23 359) ∷
+    (2 ∷ 1 ∷ 1 ∷ replicate 356 0 ++ (32 ∷ []) into 2851 gives accept 2851 (replicate 2850 0 ++ (1 ∷ []))) ∷ []
+
+-- By hand from request 4, "demand 3's places become all multiples of 103, up to 3,914": one block
+-- of a row of 4,000 symbols drawn over, by `verdict` alone.
+unfoldable pub farRedrawings : List Redrawn
+farRedrawings =
+    ((104 ∷ replicate 3999 0) at 412 drawn 102 gives accept 4000 (104 ∷ replicate 411 0 ++ (102 ∷ replicate 3587 0))) ∷
+    ((104 ∷ replicate 3999 0) at 3914 drawn 65 gives accept 4000 (104 ∷ replicate 3913 0 ++ (65 ∷ replicate 85 0))) ∷
+    ((104 ∷ replicate 3999 0) at 3913 drawn 65 gives refuse 14 39) ∷ ((104 ∷ replicate 3999 0) at 3915 drawn 65 gives refuse 14 66) ∷
+    ((104 ∷ replicate 3999 0) at 3999 drawn 1 gives refuse 14 86) ∷ ((104 ∷ replicate 3999 0) at 4000 drawn 2 gives refuse 14 1) ∷
+    ((104 ∷ replicate 3999 0) at 3914 drawn 103 gives refuse 13 3914) ∷ []
+
+-- By hand, two blocks of a row of 4,000 symbols exchanged, 3,914 or 309 places apart or not, by
+-- `exchangedVerdict` alone.
+unfoldable pub farExchangings : List Between
+farExchangings =
+    ((104 ∷ 1 ∷ replicate 3913 0 ++ (2 ∷ replicate 84 0)) between 1 and 3915
+    gives accept 4000 (104 ∷ 2 ∷ replicate 3913 0 ++ (1 ∷ replicate 84 0)) short refuse 5 4000) ∷
+    ((104 ∷ 1 ∷ replicate 3913 0 ++ (2 ∷ replicate 84 0)) between 1 and 310
+    gives accept 4000 (104 ∷ 0 ∷ replicate 308 0 ++ (1 ∷ replicate 3604 0 ++ (2 ∷ replicate 84 0))) short refuse 5 4000) ∷
+    ((104 ∷ 1 ∷ replicate 3913 0 ++ (2 ∷ replicate 84 0)) between 1 and 3914 gives refuse 14 3 short refuse 14 3) ∷
+    ((104 ∷ 1 ∷ replicate 3913 0 ++ (2 ∷ replicate 84 0)) between 3914 and 3915 gives refuse 14 2 short refuse 14 2) ∷
+    ((104 ∷ 1 ∷ replicate 3913 0 ++ (2 ∷ replicate 84 0)) between 3915 and 3999 gives refuse 14 69 short refuse 14 69) ∷ []
 
 -- a proof by computation names this on its `unfolding` line: it opens every definition above
 unfoldable pub examples-computes : Unit {0}
-unfolding digit16 digits16 cellsOf fours rowOf accepted pairs16 bytesOf elevens joined times shiftThenPlain asked given parsedAs printedAs answerOf ofCrate retired tried passesAt retiresAt those passing retires kept threeJobs threeAnswers settles settled ruled twice flips thrice trades traded exchanges threefold gave called left unstarred unstarredRecords longest order published publishedRows crateChars crateStop crateWidths crateBars everyNumber everySwitch everyFunction everyPair foreignDigits firstPoints documented randomly randomlyWrong checksOn withFNC2 sweeps readBack readLengths readBlocks readWorn readStops readChecks readLong lists badLists drawShort spellShort scanShort shiftEach shiftBefore shifting packings unpackings settling buffers redrawings flippings fnc2Refused fnc2Before fnc2Beside fnc2Swept fnc2Rows fnc2Lists exchangedRows exchangings settle-computes chars-computes rules-computes damage-computes
+unfolding digit16 digits16 cellsOf fours rowOf accepted pairs16 bytesOf elevens joined times shiftThenPlain asked given brief briefly parsedAs printedAs answerOf ofCrate retired tried passesAt retiresAt those passing retires kept threeJobs threeAnswers settles settled ruled twice judged judgement flips thrice trades traded exchanges threefold settledBetween foretold gave called left fits fitting checkIn rightCheck headed begun unstarred unstarredRecords longRows order published publishedRows crateChars crateStop crateWidths crateBars everyNumber everySwitch everyFunction everyPair foreignDigits firstPoints documented randomly randomlyWrong checksOn withFNC2 sweeps readBack readLengths readBlocks readWorn readStops readChecks readLong lists badLists drawShort spellShort scanShort shiftEach shiftBefore shifting packings unpackings settling buffers redrawings flippings fnc2Refused fnc2Before fnc2Beside fnc2Swept fnc2Rows fnc2Lists exchangedRows exchangings sizes longest longChecks heads secondPackings secondUnpackings farRedrawings farExchangings settle-computes chars-computes rules-computes damage-computes
 examples-computes = tt

@@ -4,6 +4,7 @@ pub mod Examples
 pub mod Against
 pub mod Lengths
 pub mod Lists
+pub mod Within
 pub mod Table
 pub mod Codes
 pub mod Shifting
@@ -20,6 +21,8 @@ pub mod Flipped
 pub mod Exchanged
 pub mod Bytes
 pub mod Records
+pub mod Version1
+pub mod Sums
 pub mod Results
 pub mod Retiring
 pub mod Wrong

@@ -2,7 +2,7 @@
 -- shows.
 -- Assumes nothing.
 use Rattle.paper.specs.Promises.{Promises}
-use Rattle.paper.proofs.Labels.{points-named, labels, shift-labels, retired-labels}
+use Rattle.paper.proofs.Labels.{points-named, labels, shift-labels, retired-labels, unpack-labels}
 use Rattle.paper.proofs.Table.{table-length, table-widths, table-rule, table-apart, table-found, table-pattern, look-is, look-worn, look-unknown}
 use Rattle.paper.proofs.Codes.{numbers-written, numbers-sent, numbers-switch, numbers-shift, numbers-differ, numbers-all, numbers-back, scan-seven-bits}
 use Rattle.paper.proofs.Shifting.{shift-reads, shift-none, shift-pair, scan-as-before, scan-same-length, scan-same-refusal}
@@ -16,7 +16,9 @@ use Rattle.paper.proofs.Damaged.{replaced, replaced-accepted}
 use Rattle.paper.proofs.Wrong.{read-worn, read-unknown}
 use Rattle.paper.proofs.Flipped.{flipped-exactly, flipped-refused}
 use Rattle.paper.proofs.Exchanged.{exchanged-exactly, neighbours-refused, exchanged-alike}
-use Rattle.paper.proofs.Records.{unpack-size, unpack-of-pack, pack-of-unpack}
+use Rattle.paper.proofs.Records.{unpack-size, unpack-of-pack, pack-of-unpack, pack-long, one-record}
+use Rattle.paper.proofs.Version1.{pack-as-before, unpack-as-before, old-readers}
+use Rattle.paper.proofs.Sums.{sum-fits}
 
 pub promises : Promises
 promises = record {
@@ -49,6 +51,7 @@ promises = record {
   draw-size = draw-size;
   read-size = read-size;
   unpack-size = unpack-size;
+  sum-fits = sum-fits;
   encodeWithFNC2-exactly = encodeWithFNC2-exactly;
   same-row = same-row;
   settle-quiet = settle-quiet;
@@ -88,4 +91,10 @@ promises = record {
   shift-labels = shift-labels;
   unpack-of-pack = unpack-of-pack;
   pack-of-unpack = pack-of-unpack;
+  one-record = one-record;
+  pack-as-before = pack-as-before;
+  unpack-as-before = unpack-as-before;
+  pack-long = pack-long;
+  old-readers = old-readers;
+  unpack-labels = unpack-labels;
 }

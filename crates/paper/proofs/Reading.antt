@@ -108,7 +108,7 @@ judged n cs ms =
     accept n (take n ms)
 
 -- a row's first two tests pass
-pub of-row : (room : ℕ) (cs : List ℕ) (made : ℕ → Answer) (n : ℕ) → length cs ≡ rowLength n → 1 ≤ n → n ≤ 255 → Each (λ c. c ≤ 1) cs
+pub of-row : (room : ℕ) (cs : List ℕ) (made : ℕ → Answer) (n : ℕ) → length cs ≡ rowLength n → 1 ≤ n → n ≤ 4000 → Each (λ c. c ≤ 1) cs
     → ofRow room cs made ≡ into room (made n)
 unfolding ofRow _then_ ask
 of-row room cs made n long low high clean =
@@ -118,13 +118,13 @@ of-row room cs made n long low high clean =
     rw (sized, counted, cells-pass cs clean)
 
 -- read answers by the walk over the blocks
-pub read-clean : (room : ℕ) (cs : List ℕ) (n : ℕ) → length cs ≡ 11 * (n + 1) + 13 → 1 ≤ n → n ≤ 255 → Each (λ c. c ≤ 1) cs
+pub read-clean : (room : ℕ) (cs : List ℕ) (n : ℕ) → length cs ≡ 11 * (n + 1) + 13 → 1 ≤ n → n ≤ 4000 → Each (λ c. c ≤ 1) cs
     → read room cs ≡ into room (looked (blocksFrom (n + 1) 0 cs) (judged n cs))
 unfolding read rowLength
 read-clean room cs n long low high clean = of-row room cs _ n long low high clean
 
 -- and over the numbers that they are drawn from
-pub read-cells : (room : ℕ) (u : List ℕ) (n : ℕ) → Each Number u → length u ≡ n + 1 → 1 ≤ n → n ≤ 255
+pub read-cells : (room : ℕ) (u : List ℕ) (n : ℕ) → Each Number u → length u ≡ n + 1 → 1 ≤ n → n ≤ 4000
     → read room (cells u ++ stop) ≡ into room (looked (sound 0 u) (judged n (cells u ++ stop)))
 read-cells room u n a l low high =
     let long : length (cells u ++ stop) ≡ 11 * (n + 1) + 13 = simp (length-append, length-cells u a, length-stop, l) in
@@ -132,7 +132,7 @@ read-cells room u n a l low high =
     read-clean room (cells u ++ stop) n long low high clean ∙ rw (← l, blocks-cells 0 u stop a)
 
 -- where all of them may stand, the check is left to ask
-read-fits : (room : ℕ) (u : List ℕ) (n : ℕ) → Fits 0 u → length u ≡ n + 1 → 1 ≤ n → n ≤ 255
+read-fits : (room : ℕ) (u : List ℕ) (n : ℕ) → Fits 0 u → length u ≡ n + 1 → 1 ≤ n → n ≤ 4000
     → read room (cells u ++ stop) ≡ into room (ask (eqb (getD u n 0) (check (take n u))) 14 (check (take n u)) then accept n (take n u))
 unfolding looked lastOf _then_
 read-fits room u n f l low high =
@@ -142,7 +142,7 @@ read-fits room u n f l low high =
     read-cells room u n a l low high ∙ rw (sound-fits 0 u f, drop-at (cells u) stop at long, stop-passes at)
 
 -- numbers that may stand as those of a list and a check: the list, if the check is its own
-pub read-list : (room : ℕ) (s : List ℕ) (c : ℕ) → Fits 0 (s ++ (c ∷ [])) → 1 ≤ length s → length s ≤ 255
+pub read-list : (room : ℕ) (s : List ℕ) (c : ℕ) → Fits 0 (s ++ (c ∷ [])) → 1 ≤ length s → length s ≤ 4000
     → read room (cells (s ++ (c ∷ [])) ++ stop) ≡ into room (acceptedIf (eqb c (check s)) s)
 unfolding acceptedIf
 read-list room s c f low high =
@@ -199,7 +199,7 @@ stopped at (y ∷ ys) (c ∷ cs) l e =
     ap₂ (λ (x : ℕ) (xs : List ℕ). x ∷ xs) (eqb-true c y (both .0)) (stopped (suc at) ys cs (omega arith) (both .1))
 
 -- cells of the length for k symbols, read into blocks and accepted
-read-out : (k : ℕ) (r : List ℕ) (n : ℕ) (s : List ℕ) → length r ≡ 11 * (k + 1) + 13 → 1 ≤ k → k ≤ 255
+read-out : (k : ℕ) (r : List ℕ) (n : ℕ) (s : List ℕ) → length r ≡ 11 * (k + 1) + 13 → 1 ≤ k → k ≤ 4000
     → (bs : Blocks) → blocksFrom (k + 1) 0 r ≡ bs → looked bs (judged k r) ≡ accept n s → SymbolList s × (r ≡ row s) × (n ≡ length s)
 unfolding looked lastOf most row
 read-out k r n s l low high (wrongBlock c b) q e = refuse-not-accept e
@@ -235,14 +235,14 @@ drawn-list room s n r e =
     let d = symbol-list room s (accept (length s) (row s)) e in
     (d .0, sym (accept-output (d .1)), sym (accept-number (d .1)))
 
-row-size : (r : List ℕ) (n : ℕ) (s : List ℕ) → SymbolList s × (r ≡ row s) × (n ≡ length s) → (length r ≡ 11 * (n + 1) + 13) × (n ≡ length s) × (n ≤ 255)
+row-size : (r : List ℕ) (n : ℕ) (s : List ℕ) → SymbolList s × (r ≡ row s) × (n ≡ length s) → (length r ≡ 11 * (n + 1) + 13) × (n ≡ length s) × (n ≤ 4000)
 unfolding most
 row-size r n s d = (rw (d .1, d .2) (length-row s (d .0)), d .2, rw (d .2) (d .0 .size))
 
-pub draw-size : (room : ℕ) (s : List ℕ) (n : ℕ) (r : List ℕ) → draw room s ≡ accept n r → (length r ≡ 11 * (n + 1) + 13) × (n ≡ length s) × (n ≤ 255)
+pub draw-size : (room : ℕ) (s : List ℕ) (n : ℕ) (r : List ℕ) → draw room s ≡ accept n r → (length r ≡ 11 * (n + 1) + 13) × (n ≡ length s) × (n ≤ 4000)
 draw-size room s n r e = row-size r n s (drawn-list room s n r e)
 
-pub read-size : (room : ℕ) (r : List ℕ) (n : ℕ) (s : List ℕ) → read room r ≡ accept n s → (length r ≡ 11 * (n + 1) + 13) × (n ≡ length s) × (n ≤ 255)
+pub read-size : (room : ℕ) (r : List ℕ) (n : ℕ) (s : List ℕ) → read room r ≡ accept n s → (length r ≡ 11 * (n + 1) + 13) × (n ≡ length s) × (n ≤ 4000)
 read-size room r n s e = row-size r n s (accepted room r n s e)
 
 pub read-of-draw : (room : ℕ) (s : List ℕ) (n : ℕ) (r : List ℕ) → draw room s ≡ accept n r → (place : ℕ) → n ≤ place → read place r ≡ accept n s

@@ -126,16 +126,18 @@ unpack-by room x =
     (by-then _ _ _ (by-ask _ _ 20 _ (inl refl))
     (by-then _ _ _ (by-ask _ _ 21 _ (inr (inl refl)))
     (by-then _ _ _ (by-ask _ _ 22 _ (inr (inr (inl refl))))
-    (by-then _ _ _ (by-ask _ _ 23 _ (inr (inr (inr (inl refl))))) tt))))
+    (by-then _ _ _ (by-ask _ _ 22 _ (inr (inr (inl refl))))
+    (by-then _ _ _ (by-ask _ _ 22 _ (inr (inr (inl refl))))
+    (by-then _ _ _ (by-ask _ _ 23 _ (inr (inr (inr (inl refl))))) tt))))))
 
 -- ---- largest outputs
 
-scanned-most : (s : List ℕ) → SymbolList s → length (scanned s) ≤ 508
+scanned-most : (s : List ℕ) → SymbolList s → length (scanned s) ≤ 7998
 unfolding most
 scanned-most [] a = absurd (a .form)
 scanned-most (m ∷ ms) a = let size = a .size in omega (arith, scanned-short-before m ms)
 
-scan-short : (room : ℕ) (s : List ℕ) (n : ℕ) (b : List ℕ) → scan room s ≡ accept n b → length b ≤ 508
+scan-short : (room : ℕ) (s : List ℕ) (n : ℕ) (b : List ℕ) → scan room s ≡ accept n b → length b ≤ 7998
 unfolding scan
 scan-short room s n b e =
     let parts = symbol-list room s (whole (scanned s)) e in
@@ -143,32 +145,32 @@ scan-short room s n b e =
 
 -- ---- the seven
 
-pub encode-owes : Owes encode (1 ∷ 2 ∷ 3 ∷ 19 ∷ 4 ∷ 5 ∷ []) 2829
+pub encode-owes : Owes encode (1 ∷ 2 ∷ 3 ∷ 19 ∷ 4 ∷ 5 ∷ []) 44024
 unfolding encode encoder
-encode-owes = owes encode _ 2829 (omega arith) encode-by (λ room x n out e. into-accept room _ e .1) (λ room x n out e. omega (arith, encode-size room x n out e))
+encode-owes = owes encode _ 44024 (omega arith) encode-by (λ room x n out e. into-accept room _ e .1) (λ room x n out e. omega (arith, encode-size room x n out e))
 
-pub draw-owes : Owes draw (10 ∷ 13 ∷ 5 ∷ []) 2829
+pub draw-owes : Owes draw (10 ∷ 13 ∷ 5 ∷ []) 44024
 unfolding draw ofList
-draw-owes = owes draw _ 2829 (omega arith) draw-by (λ room x n out e. into-accept room _ e .1) (λ room x n out e. omega (arith, draw-size room x n out e))
+draw-owes = owes draw _ 44024 (omega arith) draw-by (λ room x n out e. into-accept room _ e .1) (λ room x n out e. omega (arith, draw-size room x n out e))
 
-pub read-owes : Owes read (10 ∷ 11 ∷ 12 ∷ 16 ∷ 13 ∷ 15 ∷ 14 ∷ 5 ∷ []) 255
+pub read-owes : Owes read (10 ∷ 11 ∷ 12 ∷ 16 ∷ 13 ∷ 15 ∷ 14 ∷ 5 ∷ []) 4000
 unfolding read ofRow
-read-owes = owes read _ 255 (omega arith) read-by (λ room x n out e. into-accept room _ e .1) (λ room x n out e. omega (arith, read-size room x n out e))
+read-owes = owes read _ 4000 (omega arith) read-by (λ room x n out e. into-accept room _ e .1) (λ room x n out e. omega (arith, read-size room x n out e))
 
-pub spell-owes : Owes spell (10 ∷ 13 ∷ 5 ∷ []) 509
+pub spell-owes : Owes spell (10 ∷ 13 ∷ 5 ∷ []) 7999
 unfolding spell ofList
 spell-owes =
-    owes spell _ 509 (omega arith) spell-by (λ room x n out e. into-accept room _ e .1)
+    owes spell _ 7999 (omega arith) spell-by (λ room x n out e. into-accept room _ e .1)
     (λ room x n out e. let t = spell-encodes room x n out e in omega (arith, t .2, t .3))
 
-pub scan-owes : Owes scan (10 ∷ 13 ∷ 5 ∷ []) 508
+pub scan-owes : Owes scan (10 ∷ 13 ∷ 5 ∷ []) 7998
 unfolding scan ofList
-scan-owes = owes scan _ 508 (omega arith) scan-by (λ room x n out e. into-accept room _ e .1) scan-short
+scan-owes = owes scan _ 7998 (omega arith) scan-by (λ room x n out e. into-accept room _ e .1) scan-short
 
-pub pack-owes : Owes pack (10 ∷ 11 ∷ 5 ∷ []) 356
+pub pack-owes : Owes pack (10 ∷ 11 ∷ 5 ∷ []) 5506
 unfolding pack ofRow
-pack-owes = owes pack _ 356 (omega arith) pack-by (λ room x n out e. into-accept room _ e .1) pack-short
+pack-owes = owes pack _ 5506 (omega arith) pack-by (λ room x n out e. into-accept room _ e .1) pack-short
 
-pub unpack-owes : Owes unpack (20 ∷ 21 ∷ 22 ∷ 23 ∷ 5 ∷ []) 2829
+pub unpack-owes : Owes unpack (20 ∷ 21 ∷ 22 ∷ 23 ∷ 5 ∷ []) 44024
 unfolding unpack
-unpack-owes = owes unpack _ 2829 (omega arith) unpack-by (λ room x n out e. into-accept room _ e .1) unpack-short
+unpack-owes = owes unpack _ 44024 (omega arith) unpack-by (λ room x n out e. into-accept room _ e .1) unpack-short

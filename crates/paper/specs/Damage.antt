@@ -23,7 +23,8 @@ over i b cs = take (11 * i) cs ++ (b ++ drop (11 * (i + 1)) cs)
 unfoldable pub redrawn : ℕ → ℕ → List ℕ → List ℕ
 redrawn i m cs = over i (pattern m) cs
 
--- "a data symbol at place 103 or 206": the data places whose weight is a multiple of 103
+-- "demand 3's places become all multiples of 103": the data places whose weight is such a
+-- multiple
 unfoldable pub blind : List ℕ → ℕ → Bool
 blind s i = leb 1 i && ltb i (length s) && eqb (i % 103) 0
 

@@ -1,16 +1,17 @@
 -- The seven jobs, each one definition whose lines are its refusals in the papers' order. `room`
 -- is the number of elements of the lent buffer.
 -- Document 01, "What is built", "The seven jobs and their refusals", "Row record"; document 02,
--- requests 3 and 12. Assumes nothing.
-use Rattle.helpers.specs.Prelude.{ℕ, zero, suc, _+_, _-_, _*_, _/_, _%_, _≤_, Bool, true, not, _&&_, List, [], _∷_, _++_, leb, eqb, length, getD, take, drop}
+-- requests 3, 4 and 12. Assumes nothing.
+use Rattle.helpers.specs.Prelude.{ℕ, zero, suc, _+_, _-_, _*_, _/_, _%_, _≤_, Bool, true, not, _&&_, _||_, List, [], _∷_, _++_, leb, eqb, length, getD, take, drop}
 use Rattle.helpers.specs.Answers.{if_then_else_, Each, Answer, refuse, accept, Test, refuses, passes, _then_, ask, every, whole, into}
 use Rattle.paper.specs.Iso15417.{row, check, stop, Look, is, worn, unknown, found, scanned}
 use Rattle.paper.specs.Crate.{ź, isScalar, utf8Bytes, Parsed, stops, symbols, parse, spelled}
 
 -- ---- the limit
--- "The limit is 1 ≤ n ≤ 255", n counting the START and not the check
+-- "The limit is 1 ≤ n ≤ …", n counting the START and not the check; "The limit becomes 4,000
+-- everywhere"
 unfoldable pub most : ℕ
-most = 255
+most = 4000
 
 -- is a list of n symbols within the limit?
 unfoldable pub possible : ℕ → Bool
@@ -152,8 +153,8 @@ wanted k at [] cs = passes
 wanted k at (y ∷ ys) [] = refuses k at
 wanted k at (y ∷ ys) (c ∷ cs) = if eqb c y then wanted k (suc at) ys cs else refuses k at
 
--- "Read: 10, 11, then for blocks 0 to n from the left 12 before 13, then 15, 14, 5." 16 stands where
--- 12 does. The n + 1 numbers are the symbols and the check.
+-- "Read: 10, 11, then for blocks 0 to n from the left 12 before 13, then 15, 14, 5." 16 stands
+-- where 12 does. The n + 1 numbers are the symbols and the check.
 unfoldable pub read : ℕ → List ℕ → Answer
 read room cs =
     ofRow room cs λ n.  -- 10, 11; and 5 last
@@ -178,9 +179,10 @@ bytes (suc k) cs = bits 128 (take 8 cs) ∷ bytes k (drop 8 cs)
 unfoldable pub bytesFor : ℕ → ℕ
 bytesFor len = (len + 7) / 8
 
--- "Version byte 1; one byte n"
+-- "Version byte 1; one byte n", and "Up to 255 symbols are still packed as version 1 …; more as
+-- version 2", which "has a two-byte count, big-endian, after the version byte"
 unfoldable pub head : ℕ → List ℕ
-head n = 1 ∷ n ∷ []
+head n = if leb n 255 then 1 ∷ n ∷ [] else 2 ∷ (n / 256) ∷ (n % 256) ∷ []
 
 -- "then the 11n+24 cells": the record of a row with n symbols
 unfoldable pub recordOf : ℕ → List ℕ → List ℕ
@@ -205,28 +207,41 @@ unfoldable pub allZero : List ℕ → Bool
 allZero [] = true
 allZero (c ∷ cs) = eqb c 0 && allZero cs
 
--- "what the count needs": the length of a record of n symbols, 0 where no row has n symbols
+-- "what the count needs": the length of a record of n symbols
 unfoldable pub recordLength : ℕ → ℕ
-recordLength n = if possible n then length (head n) + bytesFor (rowLength n) else 0
+recordLength n = length (head n) + bytesFor (rowLength n)
 
 -- the version byte of a record
 unfoldable pub versionOf : List ℕ → ℕ
 versionOf rec = getD rec 0 0
 
--- its count
+-- the bytes of its head: the version byte and one byte of count, or in version 2 two of them (asked
+-- of no other version)
+unfoldable pub headLength : List ℕ → ℕ
+headLength rec = if eqb (versionOf rec) 1 then 2 else 3
+
+-- its count: "one byte n", or "a two-byte count, big-endian"
 unfoldable pub countOf : List ℕ → ℕ
-countOf rec = getD rec 1 0
+countOf rec = if eqb (versionOf rec) 1 then getD rec 1 0 else 256 * getD rec 1 0 + getD rec 2 0
+
+-- is it the count of a row, and of one that is packed as the record's version? Not 0, not above the
+-- limit, and "A version 2 record with a count of 255 or less is refused".
+unfoldable pub countFits : List ℕ → Bool
+countFits rec = possible (countOf rec) && eqb (versionOf rec) (getD (head (countOf rec)) 0 0)
 
 -- the cells of the bytes after its head, spare bits among them
 unfoldable pub storedCells : List ℕ → List ℕ
-storedCells rec = unbytes (drop 2 rec)
+storedCells rec = unbytes (drop (headLength rec) rec)
 
--- "Unpack: 20, 21, 22, 23, 5."
+-- "Unpack: 20, 21, 22, 23, 5."; "21 now means neither 1 nor 2; 22 also for that small count, for a
+-- count above 4,000 and for a version 2 record under 3 bytes, each with 0"
 unfoldable pub unpack : ℕ → List ℕ → Answer
 unpack room rec =
     into room  -- 5, last
     (ask (leb 2 (length rec)) 20 (length rec) then
-    ask (eqb (versionOf rec) 1) 21 (versionOf rec) then
+    ask (eqb (versionOf rec) 1 || eqb (versionOf rec) 2) 21 (versionOf rec) then
+    ask (leb (headLength rec) (length rec)) 22 0 then  -- "a version 2 record under 3 bytes"
+    ask (countFits rec) 22 0 then  -- "count 0", "that small count", "a count above 4,000"
     ask (eqb (length rec) (recordLength (countOf rec))) 22 (recordLength (countOf rec)) then
     ask (allZero (drop (rowLength (countOf rec)) (storedCells rec))) 23 (length rec - 1) then
     whole (take (rowLength (countOf rec)) (storedCells rec)))

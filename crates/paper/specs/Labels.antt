@@ -1,10 +1,12 @@
--- The starred labels of document 01, twelve cases, as one table under one statement of Promises. Two
--- more tables: symbol lists with Shift, and the bytes that scan answers; labels for request 12.
--- Document 01, "Labels on each side of the line"; document 02, requests 1 and 12. Assumes nothing.
+-- The starred labels of document 01, twelve cases, as one table under one statement of Promises.
+-- Three more tables: symbol lists with Shift, and the bytes that scan answers; labels for request
+-- 12; records for request 4.
+-- Document 01, "Labels on each side of the line"; document 02, requests 1, 4 and 12. Assumes
+-- nothing.
 use Rattle.helpers.specs.Prelude.{ℕ, _*_, String, List, [], _∷_, _++_, length}
 use Rattle.helpers.specs.Answers.{Answer, refuse, accept, whole}
 use Rattle.paper.specs.Iso15417.{points, cells, stop}
-use Rattle.paper.specs.Jobs.{encode, scan, rowLength, most}
+use Rattle.paper.specs.Jobs.{encode, scan, unpack, rowLength, most}
 
 -- a label, or two with one answer
 pub data Label : Type 0 where
@@ -74,8 +76,8 @@ shiftAnswered [] = []
 shiftAnswered ((s gives b) ∷ ls) = scan (2 * most) s ∷ shiftAnswered ls
 
 -- ---- request 12
--- by hand from request 12: ź in sets B and A, the first of two, after a switch; where 3 refuses; and
--- no ź, though the check or a pair is 97
+-- by hand from request 12: ź in sets B and A, the first of two, after a switch; where 3 refuses;
+-- and no ź, though the check or a pair is 97
 unfoldable pub retiredLabels : List Label
 retiredLabels =
     ("Ɓź" also "Àź" ⇒ refuse 19 1) ∷
@@ -86,3 +88,36 @@ retiredLabels =
     ("ź" ⇒ refuse 3 0) ∷
     ("ƁŻ" ⇒ symbolsAndCheck (104 ∷ 96 ∷ []) 97) ∷
     ("Ć97" ⇒ symbolsAndCheck (105 ∷ 97 ∷ []) 99) ∷ []
+
+-- ---- request 4
+-- a record and the answer to it
+pub data RecordLabel : Type 0 where
+  _answers_ : List ℕ → Answer → RecordLabel
+
+infix 15 _answers_
+-- by hand from document 01, "Unpack of", and request 4: in version 2 a record under 3 bytes, the
+-- counts 0, 255, 256, 4,000 and 4,001, and 256 with its low byte first
+unfoldable pub unpackLabels : List RecordLabel
+unpackLabels =
+    ((2 ∷ []) answers refuse 20 1) ∷
+    ((0 ∷ 1 ∷ []) answers refuse 21 0) ∷
+    ((3 ∷ 1 ∷ []) answers refuse 21 3) ∷
+    ((1 ∷ 0 ∷ []) answers refuse 22 0) ∷
+    ((1 ∷ 255 ∷ []) answers refuse 22 356) ∷
+    ((2 ∷ 1 ∷ []) answers refuse 22 0) ∷
+    ((2 ∷ 0 ∷ 0 ∷ []) answers refuse 22 0) ∷
+    ((2 ∷ 0 ∷ 255 ∷ []) answers refuse 22 0) ∷
+    ((2 ∷ 1 ∷ 0 ∷ []) answers refuse 22 358) ∷
+    ((2 ∷ 15 ∷ 160 ∷ []) answers refuse 22 5506) ∷
+    ((2 ∷ 15 ∷ 161 ∷ []) answers refuse 22 0) ∷
+    ((2 ∷ 0 ∷ 1 ∷ []) answers refuse 22 0) ∷ []
+
+-- the table's right sides
+unfoldable pub unpackExpected : List RecordLabel → List Answer
+unpackExpected [] = []
+unpackExpected ((rec answers a) ∷ ls) = a ∷ unpackExpected ls
+
+-- what unpack answers to its left sides, at a buffer that takes any row
+unfoldable pub unpackAnswered : List RecordLabel → List Answer
+unpackAnswered [] = []
+unpackAnswered ((rec answers a) ∷ ls) = unpack (rowLength most) rec ∷ unpackAnswered ls

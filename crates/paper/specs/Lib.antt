@@ -4,6 +4,7 @@ pub mod Settle
 pub mod Chars
 pub mod Rules
 pub mod Jobs
+pub mod Version1
 pub mod Shift
 pub mod Labels
 pub mod Damage

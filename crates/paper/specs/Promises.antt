@@ -1,20 +1,21 @@
 -- All that is promised of Code 128, in one record; `promises` of proofs/Promises.antt is its proof.
 -- Assumes nothing.
-use Rattle.helpers.specs.Prelude.{ℕ, _+_, _*_, _/_, _%_, _<_, _≤_, _≡_, _↔_, _≢_, _⊎_, false, some, List, [], _∷_, _++_, length, getD, take}
+use Rattle.helpers.specs.Prelude.{ℕ, _+_, _*_, _/_, _%_, _<_, _≤_, _≡_, _↔_, _≢_, false, some, List, [], _∷_, _++_, length, getD, take}
 use Rattle.helpers.specs.Answers.{Each, refuse, accept, Accepted, into}
 use Rattle.helpers.specs.Owes.{Owes}
-use Rattle.paper.specs.Iso15417.{points, Set, before, A, B, C, is, worn, unknown, barCells, ascii, SHIFT, cells, count, check, row, pattern, found, column, startOf, digits, other, scanned}
+use Rattle.paper.specs.Iso15417.{points, Set, before, A, B, C, is, worn, unknown, barCells, ascii, SHIFT, cells, count, weighed, check, row, pattern, found, column, startOf, digits, other, scanned}
 use Rattle.paper.specs.Crate.{À, Ɓ, Ć, Ź, ź, Ż, ż, Ž, ÷, stops, symbols, parse, letters, spans, numberIn, pointIn}
 use Rattle.paper.specs.Settle.{settle, inside, occurrences, withoutŹ}
 use Rattle.paper.specs.Chars.{chars, entry}
 use Rattle.paper.specs.Rules.{PatternRule, NoPattern, spot, differences, message, writes, sends, switches, shifts}
 use Rattle.paper.specs.Damage.{blocksOf, blockAt, redrawn, verdict, flipped, flippedVerdict, exchanged, exchangedList, exchangedVerdict}
-use Rattle.paper.specs.Jobs.{SymbolList, most, encodeWithFNC2, encode, draw, read, spell, scan, pack, unpack}
+use Rattle.paper.specs.Jobs.{SymbolList, most, encodeWithFNC2, encode, draw, read, spell, scan, bytes, bytesFor, pack, versionOf, headLength, countOf, unpack}
+use Rattle.paper.specs.Version1.{oldPack, oldUnpack}
 use Rattle.paper.specs.Shift.{unshifted, scanUnshifted, setAfter, AOrB, hasShift, NoTextFirst}
-use Rattle.paper.specs.Labels.{answered, expected, starred, shiftAnswered, shiftExpected, shiftLabels, retiredLabels}
+use Rattle.paper.specs.Labels.{answered, expected, starred, shiftAnswered, shiftExpected, shiftLabels, retiredLabels, unpackAnswered, unpackExpected, unpackLabels}
 
--- demands 1, 2 and 3, what document 01 says of spelling, scanning and records, and requests 1, 3, 9
--- and 12 of document 02
+-- demands 1, 2 and 3, what document 01 says of spelling, scanning and records, and requests 1, 3,
+-- 4, 9 and 12 of document 02
 pub record Promises : Type 0 where
   -- ---- the tables
   -- The flat table has 106 entries of eleven cells: the standard's widths, drawn in turn.
@@ -49,22 +50,25 @@ pub record Promises : Type 0 where
   pub labels : answered starred ≡ expected starred
   -- ---- demand 1, of each job
   -- What a job owes its caller (helpers, Owes): the numbers that it refuses by, and the most
-  -- elements that it ever writes: cells, symbols, code points or bytes. No row exceeds 2,829 cells.
-  pub encode-owes : Owes encode (1 ∷ 2 ∷ 3 ∷ 19 ∷ 4 ∷ 5 ∷ []) 2829
-  pub draw-owes : Owes draw (10 ∷ 13 ∷ 5 ∷ []) 2829
-  pub read-owes : Owes read (10 ∷ 11 ∷ 12 ∷ 16 ∷ 13 ∷ 15 ∷ 14 ∷ 5 ∷ []) 255
-  pub spell-owes : Owes spell (10 ∷ 13 ∷ 5 ∷ []) 509
-  pub scan-owes : Owes scan (10 ∷ 13 ∷ 5 ∷ []) 508
-  pub pack-owes : Owes pack (10 ∷ 11 ∷ 5 ∷ []) 356
-  pub unpack-owes : Owes unpack (20 ∷ 21 ∷ 22 ∷ 23 ∷ 5 ∷ []) 2829
+  -- elements that it ever writes: cells, symbols, code points or bytes. No row exceeds 44,024
+  -- cells.
+  pub encode-owes : Owes encode (1 ∷ 2 ∷ 3 ∷ 19 ∷ 4 ∷ 5 ∷ []) 44024
+  pub draw-owes : Owes draw (10 ∷ 13 ∷ 5 ∷ []) 44024
+  pub read-owes : Owes read (10 ∷ 11 ∷ 12 ∷ 16 ∷ 13 ∷ 15 ∷ 14 ∷ 5 ∷ []) 4000
+  pub spell-owes : Owes spell (10 ∷ 13 ∷ 5 ∷ []) 7999
+  pub scan-owes : Owes scan (10 ∷ 13 ∷ 5 ∷ []) 7998
+  pub pack-owes : Owes pack (10 ∷ 11 ∷ 5 ∷ []) 5506
+  pub unpack-owes : Owes unpack (20 ∷ 21 ∷ 22 ∷ 23 ∷ 5 ∷ []) 44024
   -- An accepted row has 11(n+1)+13 cells, whether it is written or read, and n is within the limit.
-  pub encode-size : (room : ℕ) (x : List ℕ) (n : ℕ) (r : List ℕ) → encode room x ≡ accept n r → (length r ≡ 11 * (n + 1) + 13) × (n ≤ 255)
-  pub draw-size : (room : ℕ) (s : List ℕ) (n : ℕ) (r : List ℕ) → draw room s ≡ accept n r → (length r ≡ 11 * (n + 1) + 13) × (n ≡ length s) × (n ≤ 255)
-  pub read-size : (room : ℕ) (r : List ℕ) (n : ℕ) (s : List ℕ) → read room r ≡ accept n s → (length r ≡ 11 * (n + 1) + 13) × (n ≡ length s) × (n ≤ 255)
+  pub encode-size : (room : ℕ) (x : List ℕ) (n : ℕ) (r : List ℕ) → encode room x ≡ accept n r → (length r ≡ 11 * (n + 1) + 13) × (n ≤ 4000)
+  pub draw-size : (room : ℕ) (s : List ℕ) (n : ℕ) (r : List ℕ) → draw room s ≡ accept n r → (length r ≡ 11 * (n + 1) + 13) × (n ≡ length s) × (n ≤ 4000)
+  pub read-size : (room : ℕ) (r : List ℕ) (n : ℕ) (s : List ℕ) → read room r ≡ accept n s → (length r ≡ 11 * (n + 1) + 13) × (n ≡ length s) × (n ≤ 4000)
   -- Unpack gives exactly the cells that its count declares, and believes the count only of a record
   -- as long as that count needs.
   pub unpack-size : (room : ℕ) (rec : List ℕ) (n : ℕ) (cs : List ℕ) → unpack room rec ≡ accept n cs
-      → (n ≡ length cs) × (length cs ≡ 11 * getD rec 1 0 + 24) × (length rec ≡ 2 + (length cs + 7) / 8)
+      → (n ≡ length cs) × (length cs ≡ 11 * countOf rec + 24) × (length rec ≡ headLength rec + (length cs + 7) / 8)
+  -- The sum of the check, of any symbol list, fits the crate's `i32`.
+  pub sum-fits : (start : ℕ) (ms : List ℕ) → SymbolList (start ∷ ms) → start + weighed 1 ms < 2147483648
   -- ---- encode, and the inputs that give one row
   -- Document 01's encoder accepts exactly the inputs that parse within limit and room, and writes
   -- their row.
@@ -112,9 +116,9 @@ pub record Promises : Type 0 where
   -- The answer, refused or not, in every case;
   pub replaced : (room : ℕ) (s : List ℕ) → SymbolList s → (i m : ℕ) → i ≤ length s → m < 106 → m ≢ getD (blocksOf s) i 0
       → read room (redrawn i m (row s)) ≡ into room (verdict s i m)
-  -- it is an acceptance exactly for a data number at a data place 103 or 206.
+  -- it is an acceptance exactly for a data number at a data place that is a multiple of 103.
   pub replaced-accepted : (room : ℕ) (s : List ℕ) → SymbolList s → length s ≤ room → (i m : ℕ) → i ≤ length s → m < 106 → m ≢ getD (blocksOf s) i 0
-      → Accepted (read room (redrawn i m (row s))) ↔ (((i ≡ 103) ⊎ (i ≡ 206)) × (i < length s) × (m ≤ 102))
+      → Accepted (read room (redrawn i m (row s))) ↔ ((1 ≤ i) × (i % 103 ≡ 0) × (i < length s) × (m ≤ 102))
   -- Request 3: read refuses a block by 16 only if it is worn, and by 12 only if it is unknown.
   pub read-worn : (room : ℕ) (cs : List ℕ) (b : ℕ) → read room cs ≡ refuse 16 b → found (blockAt b cs) ≡ worn
   pub read-unknown : (room : ℕ) (cs : List ℕ) (b : ℕ) → read room cs ≡ refuse 12 b → found (blockAt b cs) ≡ unknown
@@ -137,9 +141,9 @@ pub record Promises : Type 0 where
       → exchanged i j (row s) ≡ row s
   -- ---- spell and scan
   -- What spell writes encodes to the list's row, by document 01's encoder, and has no Ź inside a
-  -- pair, and no other input does; it has at most 509 code points.
+  -- pair, and no other input does; it has at most 7,999 code points.
   pub spell-encodes : (room : ℕ) (s : List ℕ) (n : ℕ) (x : List ℕ) → spell room s ≡ accept n x
-      → (encodeWithFNC2 (length (row s)) x ≡ accept (length s) (row s)) × (inside x ≡ false) × (n ≡ length x) × (n ≤ 509)
+      → (encodeWithFNC2 (length (row s)) x ≡ accept (length s) (row s)) × (inside x ≡ false) × (n ≡ length x) × (n ≤ 7999)
   pub spell-only : (room room′ : ℕ) (s : List ℕ) (n : ℕ) (x y : List ℕ) (k : ℕ) → spell room s ≡ accept n x
       → encodeWithFNC2 room′ y ≡ accept k (row s) → inside y ≡ false → y ≡ x
   -- Request 12: spell accepts every symbol list for which there is room, one with 97 in set A or B
@@ -165,8 +169,24 @@ pub record Promises : Type 0 where
   pub scan-same-refusal : (room : ℕ) (s : List ℕ) (k m : ℕ) → (scan room s ≡ refuse k m) ↔ (scanUnshifted room s ≡ refuse k m)
   -- Eight lists, by hand from request 1: what scan answers to each.
   pub shift-labels : shiftAnswered shiftLabels ≡ shiftExpected shiftLabels
-  -- Pack and unpack undo each other.
+  -- ---- pack and unpack
+  -- They undo each other.
   pub unpack-of-pack : (room : ℕ) (cs : List ℕ) (n : ℕ) (rec : List ℕ) → pack room cs ≡ accept n rec
       → (room′ : ℕ) → length cs ≤ room′ → unpack room′ rec ≡ accept (length cs) cs
   pub pack-of-unpack : (room : ℕ) (rec : List ℕ) → Each (λ b. b < 256) rec → (n : ℕ) (cs : List ℕ) → unpack room rec ≡ accept n cs
       → (room′ : ℕ) → length rec ≤ room′ → pack room′ cs ≡ accept (length rec) rec
+  -- Request 4: each row has one record.
+  pub one-record : (room room′ : ℕ) (rec rec′ : List ℕ) → Each (λ b. b < 256) rec → Each (λ b. b < 256) rec′ → (n n′ : ℕ) (cs : List ℕ)
+      → unpack room rec ≡ accept n cs → unpack room′ rec′ ≡ accept n′ cs → rec ≡ rec′
+  -- A row of up to 255 symbols, 2,829 cells, is packed as before the request, byte for byte, and
+  -- every record but those of version 2 is answered as before, at every length of the buffer.
+  pub pack-as-before : (room : ℕ) (cs : List ℕ) → length cs ≤ 2829 → pack room cs ≡ oldPack room cs
+  pub unpack-as-before : (room : ℕ) (rec : List ℕ) → versionOf rec ≢ 2 → unpack room rec ≡ oldUnpack room rec
+  -- Every longer one of n symbols, up to 4,000, is packed where there is room: version 2, the count
+  -- in two bytes, the high one first, and its cells, eight to a byte.
+  pub pack-long : (room : ℕ) (cs : List ℕ) (n : ℕ) → 255 < n → n ≤ 4000 → length cs ≡ 11 * (n + 1) + 13 → Each (λ c. c ≤ 1) cs → 3 + bytesFor (length cs) ≤ room
+      → pack room cs ≡ accept (3 + bytesFor (length cs)) (2 ∷ (n / 256) ∷ (n % 256) ∷ bytes (bytesFor (length cs)) cs)
+  -- Old readers answer 21 to every record of version 2, with that version.
+  pub old-readers : (room : ℕ) (rec : List ℕ) → 2 ≤ length rec → versionOf rec ≡ 2 → oldUnpack room rec ≡ refuse 21 2
+  -- Records, by hand from document 01 and request 4: what unpack answers to each.
+  pub unpack-labels : unpackAnswered unpackLabels ≡ unpackExpected unpackLabels

@@ -27,9 +27,9 @@ use Rattle.reader.proofs.Ends.{one-refuse}
 
 -- ---- the check
 
-module _ (l : List ℕ) (n : ℕ) (r : ℕ) (h : n ≤ 255) (e : r ≡ check (take 256 (take (n - 0) l))) where
+module _ (l : List ℕ) (n : ℕ) (r : ℕ) (h : n ≤ 4000) (e : r ≡ check (take 4000 (take (n - 0) l))) where
   front : r ≡ check (take n l)
-  front = e ∙ rw (sub-zero n, take-all 256 (take n l) (omega (arith, length-take n l))) refl
+  front = e ∙ rw (sub-zero n, take-all 4000 (take n l) (omega (arith, length-take n l))) refl
 
   pub check-wrong : (a : Paper.Answer) → (getD l n 0 ≡ r → ⊥) → refuse 14 r ≡ (checkAsked l n then a)
   unfolding checkAsked ask _then_
@@ -93,11 +93,11 @@ module _ {cs l : List ℕ} {v : Answer} (j : Judged cs v l) where
     unfolding withFront
     done room = j .judged room ∙ rw e refl
 
-    -- the symbols are as many as the answer says
-    pub read-front : (n ≡ length (take n l)) × (n ≤ 255)
+    -- the symbols are as many as the answer says, and as the row's length says
+    pub read-front : (n ≡ length (take n l)) × (n ≤ 4000) × (length cs ≡ 11 * (n + 1) + 13)
     read-front =
         let s = read-size n cs n (take n l) (done n ∙ into-room n n (take n l) (omega (arith, length-take n l))) in
-        (s .1, s .2)
+        (s .1, s .2, s .0)
 
     pub read-short : (room : ℕ) → room < n → read room cs ≡ refuse 5 n
     unfolding into

@@ -1,13 +1,13 @@
 // Read: a row of cells back to the symbol list that it was drawn from. A block that is no pattern
 // is answered as worn or as unknown.
-ghost use Prim.Native.Nat.{_+_, _*_, _<_, _≤_};
+ghost use Prim.Native.Nat.{_+_, _*_, _<_, _≤_, min};
 ghost use mathlib.Core.Path.{_≡_};
 ghost use mathlib.Core.List.{[]};
 ghost use lib.ListN.{length, take, drop};
 ghost use Rattle.helpers.specs.Answers.{Each, accept, _then_, Gave};
 ghost use Rattle.paper.specs.Iso15417.{found};
 ghost use Rattle.paper.specs.Jobs as Paper;
-ghost use Rattle.paper.specs.Jobs.{fitsAt, blocksFrom, wanted};
+ghost use Rattle.paper.specs.Jobs.{most, rowLength, fitsAt, blocksFrom, wanted};
 ghost use Rattle.helpers.specs.Numbers.{numberOf, secondOf};
 ghost use Rattle.helpers.specs.Contracts.{answers};
 ghost use Rattle.code128.specs.Words.{words};
@@ -143,7 +143,7 @@ fn stops(row: &[u8]) -> Answer
 // Holds the number after the first `n` of the list against their check; refuses 14 with the right
 // one.
 fn checks(list: &[u8], n: usize) -> Answer
-    requires { ⌜ (n < length (now list)) × (n ≤ 255) ⌝ }
+    requires { ⌜ (n < length (now list)) × (n ≤ 4000) ⌝ }
     ensures { λ r. ⌜ answers r ≡ (checkAsked (now (list .entry)) n then accept n []) ⌝ }
 {
     let drawn = list[n];
@@ -155,9 +155,9 @@ fn checks(list: &[u8], n: usize) -> Answer
 }
 
 // All tests of read but that of the room, in their order: 10, 11, 12 or 16 and 13, 15, 14. The
-// symbols go to the front of `list`.
+// symbols go to the front of `list`, which has room for the blocks of the row, or of the longest.
 fn judge(row: &[u8], list: &mut [u8]) -> Answer
-    requires { ⌜ 256 ≤ length (now list) ⌝ }
+    requires { ⌜ min (length (now row)) (rowLength most) ≤ 11 * length (now list) + 13 ⌝ }
     ensures { λ r. ⌜ Judged (now (row .entry)) r (now (list .exit)) ⌝ }
 {
     let so_far = shapes::shape(row);
@@ -175,12 +175,13 @@ fn judge(row: &[u8], list: &mut [u8]) -> Answer
     checks(list, n)
 }
 
-// Read: a row to its symbol list. The symbols go to the front of `out` once all tests have passed.
-pub fn read(row: &[u8], out: &mut [u8]) -> Answer
+// Reads by way of a list that has room for the blocks. The symbols go to the front of `out` once
+// all tests have passed.
+fn read_by(row: &[u8], list: &mut [u8], out: &mut [u8]) -> Answer
+    requires { ⌜ min (length (now row)) (rowLength most) ≤ 11 * length (now list) + 13 ⌝ }
     ensures { λ r. ⌜ Gave (Paper.read (length (now (out .entry))) (now (row .entry))) (numberOf r) (secondOf r) (now (out .entry)) (now (out .exit)) ⌝ }
 {
-    let mut list = [0u8; 256];
-    let so_far = judge(row, &mut list);
+    let so_far = judge(row, list);
     let Answer::Done(n) = so_far else {
         return so_far;
     };
@@ -189,4 +190,17 @@ pub fn read(row: &[u8], out: &mut [u8]) -> Answer
     }
     helpers::join_slices(out, &list[0..n]);
     Answer::Done(n)
+}
+
+// Read: a row to its symbol list. The list is cleared before it is used, so a row of up to 255
+// symbols takes a short one.
+pub fn read(row: &[u8], out: &mut [u8]) -> Answer
+    ensures { λ r. ⌜ Gave (Paper.read (length (now (out .entry))) (now (row .entry))) (numberOf r) (secondOf r) (now (out .entry)) (now (out .exit)) ⌝ }
+{
+    if row.len() <= 2829 {
+        let mut list = [0u8; 256];
+        return read_by(row, &mut list, out);
+    }
+    let mut list = [0u8; 4001];
+    read_by(row, &mut list, out)
 }

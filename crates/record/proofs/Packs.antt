@@ -38,22 +38,22 @@ part-of-row row a e q = elim (decLe (a + 8) (length row)) [ yes h ↦ whole h | 
 pub part-cells : (row : List ℕ) (a e : ℕ) → Each (λ c. c ≤ 1) row → Each (λ c. c ≤ 1) (take (e - a) (drop a row))
 part-cells row a e h = each-split (λ c. c ≤ 1) (e - a) (drop a row) (each-split (λ c. c ≤ 1) a row h .1) .0
 
--- A loop that has stored k bytes of the row after the two of the head.
-pub record Packing (row l₀ l : List ℕ) (k : ℕ) : Type 0 where
-  pub stores : Storing l₀ 2 (bytes ((length row + 7) / 8) row) l k
+-- A loop that has stored k bytes of the row from place `start` on.
+pub record Packing (row : List ℕ) (start : ℕ) (l₀ l : List ℕ) (k : ℕ) : Type 0 where
+  pub stores : Storing l₀ start (bytes ((length row + 7) / 8) row) l k
 
-pub packing-begin : {row l : List ℕ} → Packing row l l 0
+pub packing-begin : {row l : List ℕ} {start : ℕ} → Packing row start l l 0
 packing-begin = record { stores = storing-begin }
 
-module _ {row l₀ l : List ℕ} {k : ℕ} (p : Packing row l₀ l k) where
+module _ {row l₀ l : List ℕ} {start k : ℕ} (p : Packing row start l₀ l k) where
   long : length (bytes ((length row + 7) / 8) row) ≡ (length row + 7) / 8
   long = length-bytes ((length row + 7) / 8) row
 
-  pub packing-turn : (e v : ℕ) → 8 * k < length row → e ≡ min (8 * k + 8) (length row) → v ≡ bits 128 (take (e - 8 * k) (drop (8 * k) row)) → Packing row l₀ (set l (2 + k) v) (k + 1)
+  pub packing-turn : (e v : ℕ) → 8 * k < length row → e ≡ min (8 * k + 8) (length row) → v ≡ bits 128 (take (e - 8 * k) (drop (8 * k) row)) → Packing row start l₀ (set l (start + k) v) (k + 1)
   packing-turn e v h q r =
       record {
-        stores = storing-turn (p .stores) (2 + k) v refl (omega (arith, long)) (r ∙ ap (bits 128) (part-of-row row (8 * k) e q) ∙ sym (bytes-at ((length row + 7) / 8) row k (omega arith)));
+        stores = storing-turn (p .stores) (start + k) v refl (omega (arith, long)) (r ∙ ap (bits 128) (part-of-row row (8 * k) e q) ∙ sym (bytes-at ((length row + 7) / 8) row k (omega arith)));
       }
 
-  pub packing-end : length row ≤ 8 * k → l ≡ sets l₀ 2 (bytes ((length row + 7) / 8) row)
+  pub packing-end : length row ≤ 8 * k → l ≡ sets l₀ start (bytes ((length row + 7) / 8) row)
   packing-end h = storing-end (p .stores) (omega (arith, long))

@@ -1,4 +1,5 @@
-// The row record: a version byte, the count, and the cells of a row, eight to a byte.
+// The row record: a version byte, the count, and the cells of a row, eight to a byte. Version 1 has
+// one byte for the count; version 2, for rows of more than 255 symbols, has two.
 ghost use Prim.Native.Nat.{_+_, _-_, _*_, _/_, _<_, _≤_};
 ghost use mathlib.Core.Path.{_≡_};
 ghost use lib.ListN.{length, take, drop};
@@ -6,13 +7,16 @@ ghost use lib.Seq.{sets};
 ghost use Rattle.helpers.specs.Answers.{Each, Gave};
 ghost use Rattle.helpers.specs.Numbers.{numberOf, secondOf};
 ghost use Rattle.helpers.specs.Contracts.{answers};
-ghost use Rattle.paper.specs.Jobs.{pack, unpack, bits, bytes, eight, unbytes, allZero, recordLength};
-ghost use Rattle.record.specs.Tested.{tested};
+ghost use Rattle.paper.specs.Jobs.{most, pack, unpack, bits, bytes, head, eight, unbytes, allZero, versionOf};
+ghost use Rattle.record.specs.Tested.{declared, lengthFor, tested};
 use helpers::Answer;
 use helpers::Refusal;
 
 // A byte divided by the number at place k leaves the byte's k lowest bits.
 const LOWEST: [u8; 8] = [1, 2, 4, 8, 16, 32, 64, 128];
+
+// The largest count of version 1, which has one byte for it.
+const ONE_BYTE: usize = 255;
 
 // The byte of at most eight cells, the first in the top bit: each weighs half of the one before it.
 fn byte(cells: &[u8]) -> u8
@@ -30,11 +34,38 @@ fn byte(cells: &[u8]) -> u8
     sum
 }
 
-// Writes the bytes of a row after the record's head: the full ones, and a last one where cells are
-// left for it. Full bytes go apart from the last, so that eight cells are summed without a loop.
-fn put_bytes(row: &[u8], out: &mut [u8])
-    requires { ⌜ (2 + (length (now row) + 7) / 8 ≤ length (now out)) × Each (λ c. c ≤ 1) (now row) ⌝ }
-    ensures { λ _. ⌜ now (out .exit) ≡ sets (now (out .entry)) 2 (bytes ((length (now (row .entry)) + 7) / 8) (now (row .entry))) ⌝ }
+// The bytes of the head of a record of n symbols.
+fn head_length(n: usize) -> usize
+    ensures { λ r. ⌜ r ≡ length (head n) ⌝ }
+{
+    if n <= ONE_BYTE {
+        return 2;
+    }
+    3
+}
+
+// Writes the head of a record of n symbols: the version, and the count in one byte or in two, the
+// high one first.
+fn put_head(n: usize, out: &mut [u8])
+    requires { ⌜ (n ≤ most) × (length (head n) ≤ length (now out)) ⌝ }
+    ensures { λ _. ⌜ now (out .exit) ≡ sets (now (out .entry)) 0 (head n) ⌝ }
+{
+    if n <= ONE_BYTE {
+        out[0] = 1;
+        out[1] = n as u8;
+        return;
+    }
+    out[0] = 2;
+    out[1] = (n / 256) as u8;
+    out[2] = (n % 256) as u8;
+}
+
+// Writes the bytes of a row from place `start` on, after the record's head: the full ones, and a
+// last one where cells are left for it. Full bytes go apart from the last, so that eight cells are
+// summed without a loop.
+fn put_bytes(row: &[u8], start: usize, out: &mut [u8])
+    requires { ⌜ (start + (length (now row) + 7) / 8 ≤ length (now out)) × Each (λ c. c ≤ 1) (now row) ⌝ }
+    ensures { λ _. ⌜ now (out .exit) ≡ sets (now (out .entry)) start (bytes ((length (now (row .entry)) + 7) / 8) (now (row .entry))) ⌝ }
 {
     let len = row.len();
     let full = len / 8;
@@ -42,12 +73,12 @@ fn put_bytes(row: &[u8], out: &mut [u8])
     while k < full {
         let at = 8 * k;
         let e = at + 8;
-        out[2 + k] = byte(&row[at..e]);
+        out[start + k] = byte(&row[at..e]);
         k += 1;
     }
     let at = 8 * k;
     if at < len {
-        out[2 + k] = byte(&row[at..len]);
+        out[start + k] = byte(&row[at..len]);
     }
 }
 
@@ -59,24 +90,46 @@ pub fn pack(row: &[u8], out: &mut [u8]) -> Answer
     let Answer::Done(n) = so_far else {
         return so_far;
     };
-    let needed = 2 + (row.len() + 7) / 8;
+    let start = head_length(n);
+    let needed = start + (row.len() + 7) / 8;
     if out.len() < needed {
         return Answer::Refused(Refusal::Room, needed);
     }
-    out[0] = 1;
-    out[1] = n as u8;
-    put_bytes(row, out);
+    put_head(n, out);
+    put_bytes(row, start, out);
     Answer::Done(needed)
 }
 
-// The length of a record of n symbols, 0 where no row has n symbols.
-fn record_length(n: usize) -> usize
-    ensures { λ r. ⌜ r ≡ recordLength n ⌝ }
+// The count of a record of version 1 or 2, or 0 where no record of that version has it: its bytes
+// have not all arrived, or in version 2 it is up to 255 or above 4,000.
+fn count(record: &[u8]) -> usize
+    requires { ⌜ (2 ≤ length (now «record»)) × (1 ≤ versionOf (now «record»)) × (versionOf (now «record») ≤ 2) ⌝ }
+    ensures { λ r. ⌜ r ≡ declared (now («record» .entry)) ⌝ }
 {
+    let high = helpers::wide(record[1]);
+    if record[0] == 1 {
+        return high;
+    }
+    if record.len() < 3 {
+        return 0;
+    }
+    let low = helpers::wide(record[2]);
+    let n = 256 * high + low;
     match n {
-        1..=255 => 2 + (11 * n + 31) / 8,
+        256..=4000 => n,
         _ => 0,
     }
+}
+
+// The length of a record of n symbols, 0 for none.
+fn record_length(n: usize) -> usize
+    requires { ⌜ n ≤ most ⌝ }
+    ensures { λ r. ⌜ r ≡ lengthFor n ⌝ }
+{
+    if n < 1 {
+        return 0;
+    }
+    head_length(n) + (11 * n + 31) / 8
 }
 
 // Whether the `spare` lowest bits of a byte are all 0.
@@ -87,6 +140,26 @@ fn spare_clear(last: u8, spare: usize) -> bool
     last % LOWEST[spare] == 0
 }
 
+// The tests of a record of version 1 or 2 after its version: 22, 23. A count is believed only of a
+// record as long as it needs.
+fn test_count(record: &[u8]) -> Answer
+    requires { ⌜ (2 ≤ length (now «record»)) × (1 ≤ versionOf (now «record»)) × (versionOf (now «record») ≤ 2) ⌝ }
+    ensures { λ r. ⌜ answers r ≡ tested (now («record» .entry)) ⌝ }
+{
+    let n = count(record);
+    let needed = record_length(n);
+    let len = record.len();
+    if len != needed {
+        return Answer::Refused(Refusal::Count, needed);
+    }
+    let cells = 11 * n + 24;
+    let last = len - 1;
+    if !spare_clear(record[last], (cells + 7) / 8 * 8 - cells) {
+        return Answer::Refused(Refusal::Spare, last);
+    }
+    Answer::Done(cells)
+}
+
 // The tests of a record: 20, 21, 22, 23. A record that passes is accepted with its number of cells.
 fn test(record: &[u8]) -> Answer
     ensures { λ r. ⌜ answers r ≡ tested (now («record» .entry)) ⌝ }
@@ -95,21 +168,10 @@ fn test(record: &[u8]) -> Answer
     if len < 2 {
         return Answer::Refused(Refusal::Short, len);
     }
-    let version = helpers::wide(record[0]);
-    let n = helpers::wide(record[1]);
-    let needed = record_length(n);
-    if version != 1 {
-        return Answer::Refused(Refusal::Version, version);
+    match record[0] {
+        1..=2 => test_count(record),
+        _ => Answer::Refused(Refusal::Version, helpers::wide(record[0])),
     }
-    if len != needed {
-        return Answer::Refused(Refusal::Count, needed);
-    }
-    let cells = 11 * n + 24;
-    let last = len - 1;
-    if !spare_clear(record[last], 8 * (len - 2) - cells) {
-        return Answer::Refused(Refusal::Spare, last);
-    }
-    Answer::Done(cells)
 }
 
 // Writes the cells of a byte, the first from its top bit, until the part is full.
@@ -157,6 +219,7 @@ pub fn unpack(record: &[u8], out: &mut [u8]) -> Answer
     if out.len() < cells {
         return Answer::Refused(Refusal::Room, cells);
     }
-    put_cells(&record[2..], cells, out);
+    let start = record.len() - (cells + 7) / 8;
+    put_cells(&record[start..], cells, out);
     Answer::Done(cells)
 }

@@ -1,4 +1,4 @@
--- A row that read accepts has at most 255 symbols.
+-- A row that read accepts has at most 4,000 symbols.
 -- Assumes nothing.
 use Prim.Native.Nat.{ℕ, _≤_}
 use mathlib.Core.Path.{_≡_, refl}
@@ -14,12 +14,12 @@ use Rattle.paper.specs.Jobs.{read}
 use Rattle.paper.proofs.Reading.{read-size}
 use Rattle.paper.proofs.Results.{read-owes}
 
-limited : (a : Paper.Answer) (n : ℕ) → Accepted a → n ≡ second a → ((m : ℕ) (s : List ℕ) → a ≡ accept m s → m ≤ 255) → n ≤ 255
+limited : (a : Paper.Answer) (n : ℕ) → Accepted a → n ≡ second a → ((m : ℕ) (s : List ℕ) → a ≡ accept m s → m ≤ 4000) → n ≤ 4000
 unfolding second
 limited (refuse k m) n r e f = absurd r
 limited (accept m s) n r e f = omega (arith, f m s refl)
 
-pub counted : (v : Answer) (n : ℕ) (row buf out : List ℕ) → v ≡ Done n → Gave (read (length buf) row) (numberOf v) (secondOf v) buf out → n ≤ 255
+pub counted : (v : Answer) (n : ℕ) (row buf out : List ℕ) → v ≡ Done n → Gave (read (length buf) row) (numberOf v) (secondOf v) buf out → n ≤ 4000
 unfolding numberOf secondOf
 counted v n row buf out e g =
     let gave : Gave (read (length buf) row) 0 n buf out = rw e at g in

@@ -54,7 +54,7 @@ fn show_numbers(list: &[u8]) {
 
 // Writes the symbols that read finds in a row, and their check.
 fn show_symbols(row: &[u8]) {
-    let mut list = [0u8; 256];
+    let mut list = [0u8; 4001];
     let answer = reader::read(row, &mut list);
     let Answer::Done(n) = answer else {
         io::write_all(STDOUT_FILENO, b" not read");
@@ -68,7 +68,7 @@ fn show_symbols(row: &[u8]) {
 // Writes a row as the label program gives it, and what it is read as.
 fn show_row(digits: &[u8]) {
     io::write_all(STDOUT_FILENO, digits);
-    let mut row = [0u8; 2829];
+    let mut row = [0u8; 22552];
     let n = cells(digits, &mut row);
     show_symbols(&row[0..n]);
 }

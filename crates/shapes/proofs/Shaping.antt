@@ -60,7 +60,7 @@ module _ (cs : List ℕ) where
     pub counted : symbolCount (length cs) ≡ n
     pub sized : length cs ≡ 11 * n + 24
     pub some : 1 ≤ n
-    pub limited : n ≤ 255
+    pub limited : n ≤ 4000
     pub two-colours : Each (λ c. c ≤ 1) cs
 
   pub row-proper : (n : ℕ) → shaped cs ≡ accept n [] → Shaped n

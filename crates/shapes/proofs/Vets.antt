@@ -22,12 +22,12 @@ denied false f = refl
 
 -- ---- a symbol list
 
-pub vetted-size : (s : List ℕ) → (1 ≤ length s → length s ≤ 255 → ⊥) → vetted s ≡ refuse 10 (length s)
+pub vetted-size : (s : List ℕ) → (1 ≤ length s → length s ≤ 4000 → ⊥) → vetted s ≡ refuse 10 (length s)
 unfolding vetted _then_ ask
 vetted-size s h = let no-count = denied (possible (length s)) (λ e. let c = possible-count (length s) e in h (c .0) (c .1)) in rw no-count
 
 -- 13 at the START, 13 after it, and none
-module _ (s : List ℕ) (low : 1 ≤ length s) (high : length s ≤ 255) where
+module _ (s : List ℕ) (low : 1 ≤ length s) (high : length s ≤ 4000) where
   vetted-form : (t : Test) → wellFormed s ≡ t → vetted s ≡ (t then accept (length s) [])
   unfolding vetted _then_ ask
   vetted-form t e = rw (possible-count-of (length s) low high, e)
@@ -42,7 +42,7 @@ unfolding wellFormed
 start-right [] low e = absurd (omega arith)
 start-right (m ∷ ms) low e = rw e
 
-module _ (s : List ℕ) (low : 1 ≤ length s) (high : length s ≤ 255) where
+module _ (s : List ℕ) (low : 1 ≤ length s) (high : length s ≤ 4000) where
   pub vetted-start : (103 ≤ getD s 0 0 → getD s 0 0 ≤ 105 → ⊥) → vetted s ≡ refuse 13 0
   unfolding _then_
   vetted-start h =
@@ -66,13 +66,13 @@ module _ (s : List ℕ) (low : 1 ≤ length s) (high : length s ≤ 255) where
 -- ---- a row
 
 module _ (cs : List ℕ) where
-  pub shaped-size : ((n : ℕ) → 1 ≤ n → n ≤ 255 → length cs ≡ 11 * n + 24 → ⊥) → shaped cs ≡ refuse 10 (length cs)
+  pub shaped-size : ((n : ℕ) → 1 ≤ n → n ≤ 4000 → length cs ≡ 11 * n + 24 → ⊥) → shaped cs ≡ refuse 10 (length cs)
   unfolding shaped _then_ ask
   shaped-size none =
       let no-row = denied (possibleRow (length cs)) (λ e. let r = possible-row (length cs) e in none (symbolCount (length cs)) (r .1) (r .2) (omega arith)) in
       rw no-row
 
-  module _ (n : ℕ) (low : 1 ≤ n) (high : n ≤ 255) (long : length cs ≡ 11 * n + 24) where
+  module _ (n : ℕ) (low : 1 ≤ n) (high : n ≤ 4000) (long : length cs ≡ 11 * n + 24) where
     abbrev first : ℕ
     first = firstNot (λ x. leb x 1) 0 cs
 

@@ -30,14 +30,14 @@ pub fn vet(symbols: &[u8]) -> Answer
 {
     let n = symbols.len();
     match n {
-        1..=255 => vet_places(symbols),
+        1..=4000 => vet_places(symbols),
         _ => Answer::Refused(Refusal::Size, n),
     }
 }
 
 // Test 13: a START at place 0, and numbers up to 102 after it.
 fn vet_places(symbols: &[u8]) -> Answer
-    requires { ⌜ (1 ≤ length (now symbols)) × (length (now symbols) ≤ 255) ⌝ }
+    requires { ⌜ (1 ≤ length (now symbols)) × (length (now symbols) ≤ 4000) ⌝ }
     ensures { λ r. ⌜ answers r ≡ vetted (now (symbols .entry)) ⌝ }
 {
     match symbols[0] {
@@ -59,7 +59,7 @@ pub fn shape(row: &[u8]) -> Answer
 {
     let len = row.len();
     match len {
-        35..=2829 => {
+        35..=44024 => {
             let n = (len - 24) / 11;
             if len != 11 * n + 24 {
                 return Answer::Refused(Refusal::Size, len);

@@ -137,13 +137,14 @@ struct List<'a> {
 }
 
 impl List<'_> {
-    /// Adds an input if it is new. For more than 255 symbols the crate makes a row and this library
-    /// does not (docs/DIFFERENCES.md): such an input may not be in the list, unless it has a ź.
+    /// Adds an input if it is new. For more than 4,000 symbols the crate makes a row and this
+    /// library does not (docs/DIFFERENCES.md): such an input may not be in the list, unless it has
+    /// a ź.
     fn add(&mut self, text: impl Into<String>) {
         let text = text.into();
         if let (Ok(symbols), None) = (self.asker.symbols(&text), fnc2(&text)) {
             assert!(
-                symbols.len() <= 256,
+                symbols.len() <= 4001,
                 "{} symbols and a check",
                 symbols.len() - 1
             );
@@ -269,7 +270,7 @@ impl List<'_> {
     }
 
     /// Labels that end just before or after the places 103 and 206, whose weights are multiples of
-    /// 103, or at the limit; and long labels that are refused at their end.
+    /// 103, or close to 255 symbols; and long labels that are refused at their end.
     fn long(&mut self) {
         for (start, own) in STARTS.iter().zip(own_letters(self.asker)) {
             let other = if *start == 'À' { 'Ɓ' } else { 'À' };
@@ -297,8 +298,8 @@ impl List<'_> {
     }
 
     /// Texts with ź: each START with one and with two of nine code points; those that stand for a
-    /// kind of their own; long ones, below and above the limit; and random labels with one or two ź
-    /// put in.
+    /// kind of their own; long ones, on each side of 255 symbols; and random labels with one or two
+    /// ź put in.
     fn retired(&mut self, dice: &mut Dice) {
         let few = || "97aÀƁĆŹź€".chars();
         for start in STARTS {
@@ -326,6 +327,33 @@ impl List<'_> {
             }
             self.add(text.into_iter().collect::<String>());
         }
+    }
+
+    /// Labels of more than 255 symbols in each set and in all three, up to as many as a line holds:
+    /// 2,048 if each but the START is a control code of one digit.
+    fn longer(&mut self, dice: &mut Dice) {
+        let own_of_sets = own_letters(self.asker);
+        for (start, own) in STARTS.iter().zip(&own_of_sets) {
+            let other = if *start == 'À' { 'Ɓ' } else { 'À' };
+            let highest = own[own.len() - 1].clone();
+            for n in [256, 257, 300, 512, 513] {
+                let cycle: String = own.iter().cycle().take(n - 1).cloned().collect();
+                self.add(format!("{start}{cycle}"));
+            }
+            self.add(format!("{start}{}", own[33].repeat(255)));
+            self.add(format!("{start}{}", highest.repeat(255)));
+            self.add(format!("{other}{start}{}", own[33].repeat(254)));
+        }
+        for symbols in [256, 257, 300, 300, 700] {
+            self.add(random_label(&own_of_sets, dice, symbols));
+        }
+        self.add(format!("Ɓ{}", "customs".repeat(143)));
+        self.add(format!("Ć{}", "12".repeat(682)));
+        let controls: String = ('\0'..='\u{F}').cycle().take(2047).collect();
+        self.add(format!("À{controls}"));
+        self.add(format!("À{}€", &controls[..2044]));
+        self.add(format!("À{}ź", &controls[..2045]));
+        self.add(format!("Ć{}1", "12".repeat(681)));
     }
 
     /// Random labels that are accepted, and texts of any code points after a START.
@@ -439,5 +467,6 @@ pub fn inputs(asker: &Asker) -> Vec<String> {
     list.random(&mut dice);
     list.damaged(&mut dice);
     list.retired(&mut dice);
+    list.longer(&mut dice);
     list.texts
 }

@@ -8,11 +8,9 @@ use barcoders::error::Error;
 use barcoders::sym::code128::Code128;
 use std::io::{self, BufRead, Write};
 
-/// The most bytes that a line may have.
+/// The most bytes that a line may have. Such a line has at most 2,048 symbols, so no label is too
+/// long.
 const LINE: usize = 4096;
-
-/// The most symbols that a label may have.
-const MOST: usize = 255;
 
 /// The number that is written with one to six upper-case hex digits.
 fn number(digits: &[u8]) -> Option<u32> {
@@ -54,11 +52,10 @@ fn write_text(text: &str, out: &mut Vec<u8>) -> io::Result<()> {
     match Code128::new(text).map(|barcode| barcode.encode()) {
         Err(Error::Length) => write!(out, "2 0"),
         Err(_) => write!(out, "3 ?"),
-        Ok(row) => match ((row.len() - 24) / 11, text.chars().position(|c| c == 'ź')) {
-            (_, Some(place)) => write!(out, "19 {place}"),
-            (n, None) if n > MOST => write!(out, "4 {n}"),
-            (n, None) => {
-                write!(out, "0 {n} ")?;
+        Ok(row) => match text.chars().position(|c| c == 'ź') {
+            Some(place) => write!(out, "19 {place}"),
+            None => {
+                write!(out, "0 {} ", (row.len() - 24) / 11)?;
                 out.extend(row.iter().map(|cell| b'0' + cell));
                 Ok(())
             }

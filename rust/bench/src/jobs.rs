@@ -32,7 +32,7 @@ fn count(n: usize) -> usize {
 }
 
 /// The size of every lent buffer: enough for any job.
-const ROOM: usize = 2829;
+const ROOM: usize = slatmonief::MOST_CELLS;
 
 /// Every lent buffer begins at the beginning of a page of memory: a write across the end of a page
 /// takes about 12 ns more, and without this it would occur with one buffer and not with another.

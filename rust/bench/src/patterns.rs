@@ -2,7 +2,7 @@
 //! one word for each pattern.
 
 /// The most symbols that a list has.
-pub const MOST: usize = 255;
+pub const MOST: usize = 4000;
 
 /// The entry of `SYMBOLS` for a word that is not a pattern.
 pub const NONE: u8 = 255;

@@ -127,11 +127,20 @@ pub fn unpack(record: &[u8], row: &mut [u8]) -> Answer {
     answer(try_unpack(record, row))
 }
 
+/// Encode, by way of a list with a place for each code point: a short text takes a short list,
+/// since a list is cleared before it is used. There are no more symbols than code points.
+fn try_encode(text: &[u32], row: &mut [u8]) -> Result<usize, Answer> {
+    match text.len() {
+        0..=128 => encode_by(text, &mut [0; 128], row),
+        129..=512 => encode_by(text, &mut [0; 512], row),
+        _ => encode_by(text, &mut [0; MOST], row),
+    }
+}
+
 /// Encode with the passes of the library: a text that parses to its end has neither refusal 1 nor
 /// 2, so these are tested only where parsing stops.
-fn try_encode(text: &[u32], row: &mut [u8]) -> Result<usize, Answer> {
-    let mut list = [0; MOST];
-    let (n, retired) = parse(text, &mut list).map_err(|place| stopped(text, place))?;
+fn encode_by(text: &[u32], list: &mut [u8], row: &mut [u8]) -> Result<usize, Answer> {
+    let (n, retired) = parse(text, list).map_err(|place| stopped(text, place))?;
     if let Some(place) = retired {
         return Err((19, place));
     }
@@ -158,7 +167,7 @@ fn digit(c: u32) -> Option<u8> {
 
 /// The number of symbols of a text and the place of its first ź, or the place where parsing stops.
 /// The list gets as many of the symbols as it has room for.
-fn parse(text: &[u32], list: &mut [u8; MOST]) -> Result<(usize, Option<usize>), usize> {
+fn parse(text: &[u32], list: &mut [u8]) -> Result<(usize, Option<usize>), usize> {
     let mut retired = None;
     let mut set = Set::None;
     let mut held = None;
@@ -241,7 +250,7 @@ fn vet(symbols: &[u8]) -> Result<(), Answer> {
 /// The first tests of read and pack: 10, 11. Returns the number of symbols.
 fn shape(row: &[u8]) -> Result<usize, Answer> {
     let len = row.len();
-    if !(35..=2829).contains(&len) || len % 11 != 24 % 11 {
+    if !(35..=11 * MOST + 24).contains(&len) || len % 11 != 24 % 11 {
         return Err((10, len));
     }
     match row.iter().position(|&cell| cell > 1) {
@@ -293,16 +302,30 @@ fn no_pattern(block: &[u8]) -> u32 {
     }
 }
 
-/// Read, with its tests in their order: 10, 11, then 12 or 16 and 13 from the left, then 15, 14, 5.
+/// Read, by way of a list with a place for each block: a short row takes a short list.
 fn try_read(
     row: &[u8],
     symbols: &mut [u8],
     find: impl Fn(&[u8]) -> Option<u8>,
 ) -> Result<usize, Answer> {
     let n = shape(row)?;
-    let mut list = [0; MOST + 1];
+    match n {
+        0..=255 => read_by(row, n, &mut [0; 256], symbols, find),
+        _ => read_by(row, n, &mut [0; MOST + 1], symbols, find),
+    }
+}
+
+/// The tests of read after 10 and 11, in their order: 12 or 16 and 13 from the left, then 15, 14,
+/// 5.
+fn read_by(
+    row: &[u8],
+    n: usize,
+    list: &mut [u8],
+    symbols: &mut [u8],
+    find: impl Fn(&[u8]) -> Option<u8>,
+) -> Result<usize, Answer> {
     let (blocks, stop) = row.split_at(11 * (n + 1));
-    for (b, (block, place)) in blocks.chunks_exact(11).zip(&mut list).enumerate() {
+    for (b, (block, place)) in blocks.chunks_exact(11).zip(&mut *list).enumerate() {
         let symbol = find(block).ok_or_else(|| (no_pattern(block), b))?;
         if (symbol > 102) != (b == 0) {
             return Err((13, b));
@@ -414,14 +437,26 @@ fn byte(cells: &[u8]) -> u8 {
         .fold(0, |byte, (&cell, bit)| byte | cell << bit)
 }
 
+/// The bytes before the cells in a record of n symbols: the version, and a count of one byte or
+/// two.
+fn head_length(n: usize) -> usize {
+    match n {
+        0..=255 => 2,
+        _ => 3,
+    }
+}
+
 /// Pack, with its tests in their order: 10, 11, 5. Writes the full bytes, and then the last byte if
 /// cells are left for it.
 fn try_pack(row: &[u8], record: &mut [u8]) -> Result<usize, Answer> {
     let n = shape(row)?;
-    let needed = 2 + row.len().div_ceil(8);
+    let needed = head_length(n) + row.len().div_ceil(8);
     let record = record.get_mut(..needed).ok_or((5, needed))?;
-    let (head, bytes) = record.split_at_mut(2);
-    head.copy_from_slice(&[1, n as u8]);
+    let (head, bytes) = record.split_at_mut(head_length(n));
+    match head {
+        [version, count] => (*version, *count) = (1, n as u8),
+        _ => head.copy_from_slice(&[2, (n >> 8) as u8, n as u8]),
+    }
     let eights = row.chunks_exact(8);
     let left = eights.remainder();
     for (out, cells) in bytes.iter_mut().zip(eights) {
@@ -433,23 +468,35 @@ fn try_pack(row: &[u8], record: &mut [u8]) -> Result<usize, Answer> {
     Ok(needed)
 }
 
+/// The count of a record whose version is 1 or 2, if a record of that version has it: version 2 is
+/// for more than 255 symbols.
+fn count(record: &[u8]) -> Option<usize> {
+    match *record {
+        [1, n, ..] => Some(usize::from(n)).filter(|&n| n > 0),
+        [_, high, low, ..] => {
+            let n = usize::from(u16::from_be_bytes([high, low]));
+            (256..=MOST).contains(&n).then_some(n)
+        }
+        _ => None,
+    }
+}
+
 /// The tests of a record: 20, 21, 22, 23. Returns the number of its cells.
 fn test(record: &[u8]) -> Result<usize, Answer> {
-    let [version, count, ..] = *record else {
+    let [version, _, ..] = *record else {
         return Err((20, record.len()));
     };
-    if version != 1 {
+    if !matches!(version, 1 | 2) {
         return Err((21, usize::from(version)));
     }
-    if count == 0 {
-        return Err((22, 0));
-    }
-    let cells = 11 * usize::from(count) + 24;
-    let needed = 2 + cells.div_ceil(8);
+    let n = count(record).ok_or((22, 0))?;
+    let cells = 11 * n + 24;
+    let bytes = cells.div_ceil(8);
+    let needed = head_length(n) + bytes;
     if record.len() != needed {
         return Err((22, needed));
     }
-    let spare = 8 * (needed - 2) - cells;
+    let spare = 8 * bytes - cells;
     if record[needed - 1] & ((1 << spare) - 1) != 0 {
         return Err((23, needed - 1));
     }
@@ -468,7 +515,7 @@ fn spread(part: &mut [u8], byte: u8) {
 fn try_unpack(record: &[u8], row: &mut [u8]) -> Result<usize, Answer> {
     let n = test(record)?;
     let row = row.get_mut(..n).ok_or((5, n))?;
-    let bytes = &record[2..];
+    let bytes = &record[record.len() - n.div_ceil(8)..];
     let mut eights = row.chunks_exact_mut(8);
     for (part, &byte) in eights.by_ref().zip(bytes) {
         spread(part, byte);

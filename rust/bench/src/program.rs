@@ -8,17 +8,19 @@ use std::process::{Child, Command, Stdio};
 use std::time::{Duration, Instant};
 use std::{env, thread};
 
-/// The sizes of the labels. Each has its number of rounds and, for one size, the target for the
-/// program's time, as a part of the filter's time.
-const SIZES: [(usize, usize, Option<f64>); 4] = [
-    (2, 15, None),
-    (14, 15, Some(0.15)),
-    (50, 7, None),
-    (255, 5, None),
+/// The sizes of the labels. Each has its number of lines in a file, its number of rounds and, for
+/// one size, the target for the program's time, as a part of the filter's time. 680 symbols make a
+/// line of 4,077 bytes in set C, where 4,096 are allowed.
+const SIZES: [(usize, usize, usize, Option<f64>); 5] = [
+    (2, 100_000, 15, None),
+    (14, 100_000, 15, Some(0.15)),
+    (50, 100_000, 7, None),
+    (255, 100_000, 5, None),
+    (LONG, 10_000, 5, None),
 ];
 
-/// The number of lines in a file.
-const LINES: usize = 100_000;
+/// The largest size.
+const LONG: usize = 680;
 
 /// A program waits for input if it is asleep at this many looks in a row.
 const LOOKS: usize = 5;
@@ -184,20 +186,21 @@ pub fn time() -> io::Result<Vec<Table>> {
         folder.file("other"),
     );
     let mut table = Table::new(
-        "The label program beside the same filter over the crate, 100,000 lines",
-        "output | n | rounds",
+        "The label program beside the same filter over the crate",
+        "output | n | lines | rounds",
         "s",
         "filter",
     );
-    for (n, runs, target) in SIZES {
-        let mut lines = BufWriter::new(File::create(&input)?);
-        write_lines(&mut lines, n, LINES)?;
-        lines.into_inner()?;
+    for (n, lines, runs, target) in SIZES {
+        let mut file = BufWriter::new(File::create(&input)?);
+        write_lines(&mut file, n, lines)?;
+        file.into_inner()?;
+        let key = |output: &str| format!("{output} | {n} | {lines} lines | {runs} rounds");
         let (a, b) = in_turn(&programs, runs, &input, None)?;
-        table.add(format!("/dev/null | {n} | {runs} rounds"), &a, &b, target);
+        table.add(key("/dev/null"), &a, &b, target);
         let (a, b) = in_turn(&programs, runs, &input, Some((&ours, &other)))?;
         assert_equal(&ours, &other)?;
-        table.add(format!("a file | {n} | {runs} rounds"), &a, &b, target);
+        table.add(key("a file"), &a, &b, target);
     }
     Ok(vec![table])
 }
@@ -264,26 +267,29 @@ fn peak(program: &Path, text: &[u8], times: usize) -> io::Result<usize> {
     most
 }
 
-/// Prints the most memory of both programs for ten and for a million lines of n = 14.
+/// Prints the most memory of both programs for ten and for a million lines of n = 14, and for a
+/// thousand of the largest size.
 pub fn memory() -> io::Result<()> {
     let programs = Programs {
         label: find_label()?,
         filter: find_filter()?,
     };
-    let (mut ten, mut thousand) = (Vec::new(), Vec::new());
+    let (mut ten, mut thousand, mut long) = (Vec::new(), Vec::new(), Vec::new());
     write_lines(&mut ten, 14, 10)?;
     write_lines(&mut thousand, 14, 1000)?;
-    println!("\n### The most memory, KB, n = 14, one run each\n");
-    println!("| program | ten lines | a million lines |");
-    println!("|---|---:|---:|");
+    write_lines(&mut long, LONG, 1000)?;
+    println!("\n### The most memory, KB, one run each\n");
+    println!("| program | ten lines, n = 14 | a million | a thousand, n = {LONG} |");
+    println!("|---|---:|---:|---:|");
     for (name, program) in [
         ("label", &programs.label),
         ("filter over the crate", &programs.filter),
     ] {
         println!(
-            "| {name} | {} | {} |",
+            "| {name} | {} | {} | {} |",
             peak(program, &ten, 1)?,
-            peak(program, &thousand, 1000)?
+            peak(program, &thousand, 1000)?,
+            peak(program, &long, 1)?
         );
     }
     Ok(())

@@ -28,10 +28,11 @@ fn same<I, O: Copy + Default + PartialEq + Debug>(
     job: Job<I, O>,
     plain: Plain<I, O>,
 ) -> Answer {
-    let ample = numbers(job(input, &mut [O::default(); 3000]));
     let needed = numbers(job(input, &mut []));
     let needed = if needed.0 == 5 { needed.1 } else { 0 };
-    for room in [0, 1, needed.saturating_sub(1), needed, needed + 3, 3000] {
+    let long = needed + 3000;
+    let ample = numbers(job(input, &mut vec![O::default(); long]));
+    for room in [0, 1, needed.saturating_sub(1), needed, needed + 3, long] {
         let (mut ours, mut theirs) = (vec![blank; room], vec![blank; room]);
         assert_eq!(numbers(job(input, &mut ours)), plain(input, &mut theirs));
         assert_eq!(ours, theirs);
@@ -127,8 +128,36 @@ fn shuffled(random: &mut Numbers, row: &[u8]) -> Vec<u8> {
 fn on_labels() {
     let mut random = Numbers::new(1);
     for kind in KINDS {
-        for n in [1, 2, 3, 13, 14, 50, 254, 255] {
+        for n in [
+            1, 2, 3, 13, 14, 50, 64, 65, 128, 129, 254, 255, 256, 257, 512, 513, 1000, 3999, 4000,
+        ] {
             same_label(&label(list(&mut random, kind, n)));
+        }
+    }
+}
+
+/// One symbol more than the limit, and the row of as many.
+#[test]
+fn above_the_limit() {
+    let mut random = Numbers::new(4);
+    for kind in KINDS {
+        let l = label(list(&mut random, kind, 4000));
+        let symbols = [&l.symbols[..], &[0]].concat();
+        let row = [&l.row[..], &[0; 11]].concat();
+        assert_eq!(same(&symbols, 9, slatmonief::draw, plain::draw), (10, 4001));
+        assert_eq!(
+            same(&symbols, 9, slatmonief::spell, plain::spell),
+            (10, 4001)
+        );
+        assert_eq!(same(&symbols, 9, slatmonief::scan, plain::scan), (10, 4001));
+        assert_eq!(same(&row, 9, slatmonief::read, plain::read), (10, 44_035));
+        assert_eq!(same(&row, 9, slatmonief::pack, plain::pack), (10, 44_035));
+    }
+    for (start, rest) in [("À", "A"), ("Ɓ", "a"), ("Ć", "12")] {
+        for n in [4001, 4002, 9000] {
+            let text = format!("{start}{}", rest.repeat(n - 1));
+            let points: Vec<u32> = text.chars().map(u32::from).collect();
+            assert_eq!(same(&points, 9, slatmonief::encode, plain::encode), (4, n));
         }
     }
 }
@@ -181,12 +210,22 @@ fn on_lists_with_97() {
     assert_eq!(same(&stops, 9, slatmonief::encode, plain::encode), (3, 603));
 }
 
+/// The number of symbols of a label to damage: of some rounds close to the limit, of some close to
+/// the end of version 1, else small.
+fn size(random: &mut Numbers, round: usize) -> usize {
+    match round % 40 {
+        0 => 3801 + random.below(200),
+        8 | 16 | 24 | 32 => 1 + random.below(600),
+        _ => 1 + random.below(20),
+    }
+}
+
 #[test]
 fn on_damaged_texts_and_lists() {
     let mut random = Numbers::new(2);
     let mut seen = [0; 24];
     for round in 0..800 {
-        let n = 1 + random.below(if round % 8 == 0 { 255 } else { 20 });
+        let n = size(&mut random, round);
         let l = label(list(&mut random, KINDS[round % KINDS.len()], n));
         let text = damaged(&mut random, &l.points, point);
         let symbols = damaged(&mut random, &l.symbols, |random| random.byte(120));
@@ -210,7 +249,7 @@ fn on_damaged_rows_and_records() {
     let mut random = Numbers::new(3);
     let mut seen = [0; 24];
     for round in 0..600 {
-        let n = 1 + random.below(if round % 8 == 0 { 255 } else { 20 });
+        let n = size(&mut random, round);
         let l = label(list(&mut random, KINDS[round % KINDS.len()], n));
         for row in [
             damaged(&mut random, &l.row, |random| random.byte(3)),
@@ -244,6 +283,43 @@ fn on_damaged_rows_and_records() {
     );
 }
 
+/// Records of every version byte up to 4 and of counts around the limits, each of no more than its
+/// head, of the length that it needs, and a byte shorter and longer.
+#[test]
+fn on_heads_of_records() {
+    let mut seen = [0; 24];
+    for version in 0..=4 {
+        for count in [
+            0, 1, 2, 254, 255, 256, 257, 511, 512, 3999, 4000, 4001, 65_535,
+        ] {
+            let [high, low] = u16::to_be_bytes(count);
+            let head = [version, if version == 1 { low } else { high }, low];
+            let cells = (11 * usize::from(count) + 24).div_ceil(8);
+            for length in [0, 1, 2, 3, cells + 1, cells + 2, cells + 3, cells + 4] {
+                let mut record = vec![0; length];
+                record
+                    .iter_mut()
+                    .zip(head)
+                    .for_each(|(to, byte)| *to = byte);
+                seen[same(&record, 9, slatmonief::unpack, plain::unpack).0 as usize] += 1;
+            }
+        }
+    }
+    assert!([0, 20, 21, 22].iter().all(|&number| seen[number] > 0));
+    for (record, answer) in [
+        (&[2][..], (20, 1)),
+        (&[3, 9], (21, 3)),
+        (&[1, 0], (22, 0)),
+        (&[2, 1], (22, 0)),
+        (&[2, 0, 255], (22, 0)),
+        (&[2, 1, 0], (22, 358)),
+        (&[2, 15, 160], (22, 5506)),
+        (&[2, 15, 161], (22, 0)),
+    ] {
+        assert_eq!(same(record, 9, slatmonief::unpack, plain::unpack), answer);
+    }
+}
+
 #[test]
 fn the_filter_answers_as_the_label_program() {
     let lines = "C0\n106 31 32\n\n106 31\nD800\nC0 zz\nc0\n C0\nC0 \nC0  C0\n00000C0\n0000C0\n41";
@@ -263,7 +339,13 @@ fn the_filter_answers_as_the_label_program() {
     let long = format!("181{}\n181{}", " 41".repeat(255), " 41".repeat(1365));
     let mut out = Vec::new();
     filter::run(long.as_bytes(), &mut out).unwrap();
-    assert_eq!(out, b"4 256\n?\n");
+    assert_eq!((out.len(), &out[..6]), (2849, &b"0 256 "[..]));
+    assert!(out.ends_with(b"11\n?\n"));
+    let longest = format!("C0{}\nC0{}", " 0".repeat(2047), " 0".repeat(2048));
+    let mut out = Vec::new();
+    filter::run(longest.as_bytes(), &mut out).unwrap();
+    assert_eq!((out.len(), &out[..7]), (22_562, &b"0 2048 "[..]));
+    assert!(out.ends_with(b"11\n?\n"));
     let retired = format!(
         "181 17A\n181 17A 20AC\n106 17A\n181{} 17A",
         " 41".repeat(300)

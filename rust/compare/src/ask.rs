@@ -13,7 +13,7 @@ pub enum Crate {
     Length,
     /// `Error::Character`.
     Character,
-    /// The row. For a text of more than 6,000 code points only its length is right.
+    /// The row. For more than 6,000 symbols only its length is right.
     Row(Vec<u8>),
 }
 
@@ -26,13 +26,25 @@ pub fn text_of(points: &[u32]) -> Result<String, usize> {
     Ok(text)
 }
 
-/// The most code points of a text that the crate is asked to draw. For more than about 6,400
-/// symbols, its sum for the check does not fit in an `i32`.
+/// The most symbols of a text that the crate is asked to draw. For more than about 6,400 its sum
+/// for the check does not fit in an `i32`.
 pub const MOST_DRAWN: usize = 6000;
 
 /// The number of symbols of a text that the crate accepts, counted in its debug output.
 fn symbols(code: &Code128) -> usize {
     format!("{code:?}").matches("Unit {").count()
+}
+
+/// The crate's row of a text of so many code points, or as many cells as the row has, if the crate
+/// is not asked to draw it. A text has no more symbols than code points.
+fn drawn(code: &Code128, points: usize) -> Vec<u8> {
+    match points {
+        0..=MOST_DRAWN => code.encode(),
+        _ => match symbols(code) {
+            0..=MOST_DRAWN => code.encode(),
+            n => vec![0; cells(n)],
+        },
+    }
 }
 
 /// Asks the crate.
@@ -42,8 +54,7 @@ pub fn ask(points: &[u32]) -> Crate {
         Err(place) => return Crate::NoText(place),
     };
     match Code128::new(&text) {
-        Ok(code) if points.len() > MOST_DRAWN => Crate::Row(vec![0; cells(symbols(&code))]),
-        Ok(code) => Crate::Row(code.encode()),
+        Ok(code) => Crate::Row(drawn(&code, points.len())),
         Err(Error::Length) => Crate::Length,
         Err(Error::Character) => Crate::Character,
         Err(other) => panic!("the crate gives {other:?}, which it does not give for Code 128"),

@@ -95,6 +95,8 @@ pub struct Tally {
     pub drop_in: u64,
     /// Accepted inputs of encode that are too long for the crate to draw.
     pub undrawn: u64,
+    /// Accepted calls of encode with more than 255 symbols.
+    pub long: u64,
     /// Calls of encode for each row of the list.
     pub listed: [u64; listed::LIST.len()],
 }
@@ -107,6 +109,7 @@ impl Tally {
         self.laws += other.laws;
         self.drop_in += other.drop_in;
         self.undrawn += other.undrawn;
+        self.long += other.long;
         self.refused
             .iter_mut()
             .zip(other.refused)
@@ -329,9 +332,10 @@ impl<'a> Worker<'a> {
     }
 
     /// Counts an input of encode.
-    pub fn count_text(&mut self, text: &[u32], crates: &Crate) {
+    pub fn count_text(&mut self, crates: &Crate) {
+        let undrawn = matches!(crates, Crate::Row(row) if row.len() > cells(MOST_DRAWN));
         self.tally.inputs += 1;
-        self.tally.undrawn += u64::from(text.len() > MOST_DRAWN && matches!(crates, Crate::Row(_)));
+        self.tally.undrawn += u64::from(undrawn);
     }
 
     /// Compares encode with the crate.
@@ -365,6 +369,7 @@ impl<'a> Worker<'a> {
             ));
         }
         self.tally.call(answer.0);
+        self.tally.long += u64::from(answer.0 == 0 && answer.1 > 255);
         for row in listed::rows_of(text, crates, place, answer.0) {
             self.tally.listed[row as usize] += 1;
         }
@@ -372,7 +377,7 @@ impl<'a> Worker<'a> {
     }
 
     /// Compares `Code128`, the type with the crate's signatures, with a known answer of the crate.
-    /// A ź must give `Error::Character`, and more than 255 symbols without one `Error::Length`.
+    /// A ź must give `Error::Character`, and more than 4,000 symbols without one `Error::Length`.
     pub fn drop_in(&mut self, text: &[u32], crates: &Crate) -> Result<(), Box<Fault>> {
         let Ok(words) = ask::text_of(text) else {
             return Ok(());

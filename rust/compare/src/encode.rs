@@ -3,7 +3,7 @@ use crate::ask::{self, Crate, Tries};
 use crate::check::{broken, place_for, Subject, Tally, Worker};
 use crate::inputs::{self, Style, SMALL, STYLES, WITH_FNC2};
 use crate::laws::given;
-use crate::model::{self, SWITCH};
+use crate::model::{self, FNC2, LIMIT, SWITCH};
 use crate::random::Random;
 use crate::run::{Result, Run};
 use std::collections::HashMap;
@@ -65,7 +65,7 @@ fn walk(
 /// one cell less; if it has a ź, also with none and with more.
 fn visit(worker: &mut Worker, text: &[u32], said: &Crate, dead: Option<usize>) -> Result<()> {
     let mark = [0xA7, 0x5C, 0xFF][text.len() % 3];
-    worker.count_text(text, said);
+    worker.count_text(said);
     let need = match said {
         Crate::Row(row) => row.len(),
         _ => 35,
@@ -207,18 +207,17 @@ fn one(worker: &mut Worker, random: &mut Random, text: &[u32]) -> Result<()> {
 
 /// Compares one text with this room, and through the type with the crate's signatures.
 fn with_room(worker: &mut Worker, text: &[u32], said: &Crate, room: usize, mark: u8) -> Result<()> {
-    worker.count_text(text, said);
+    worker.count_text(said);
     worker.drop_in(text, said)?;
     worker
         .encode_known(text, said, place_for(text, said), room, mark)
         .map(drop)
 }
 
-/// The numbers of symbols in `lengths`: each one up to 300, and some far above the limit.
+/// The numbers of symbols in `lengths`: each one up to 300, and some up to the limit and above it.
 fn label_lengths() -> Vec<usize> {
-    (1..=300)
-        .chain([510, 511, 512, 513, 767, 768, 1000, 2829, 5000])
-        .collect()
+    let between = [510, 511, 512, 513, 514, 767, 768, 1000, 2047, 2048, 3500];
+    (1..=300).chain(between).chain([5000]).collect()
 }
 
 /// Labels of every length in every style, with rooms close to the length of the row; and damaged
@@ -231,17 +230,67 @@ pub fn lengths(run: &Run) -> Result<Tally> {
         let copies = if (250..=260).contains(&n) { 8 } else { 1 };
         for style in STYLES.into_iter().cycle().take(copies * STYLES.len()) {
             let mut text = inputs::label(&mut random, n, style);
-            let said = ask::ask(&text);
-            worker.count_text(&text, &said);
-            worker.drop_in(&text, &said)?;
-            for room in inputs::near(model::cells(n)) {
-                worker.encode_known(&text, &said, 0, room, random.mark())?;
-            }
+            with_rooms(worker, &mut random, &text, n)?;
             inputs::damage(&mut random, &mut text, &alphabet);
             one(worker, &mut random, &text)?;
         }
         Ok(())
     })
+}
+
+/// Compares a label of n symbols with rooms close to the length of its row.
+fn with_rooms(worker: &mut Worker, random: &mut Random, text: &[u32], n: usize) -> Result<()> {
+    let said = ask::ask(text);
+    worker.count_text(&said);
+    worker.drop_in(text, &said)?;
+    for room in inputs::near(model::cells(n)) {
+        worker.encode_known(text, &said, 0, room, random.mark())?;
+    }
+    Ok(())
+}
+
+/// The numbers of symbols in `limit`: each one on either side of the limit, from it on first, and
+/// some below it.
+fn limit_lengths() -> Vec<usize> {
+    let below = [511, 512, 513, 1023, 1024, 1025, 2049, 3000, 3914, 3915];
+    (LIMIT..=LIMIT + 5)
+        .chain(LIMIT - 4..LIMIT)
+        .chain(below)
+        .collect()
+}
+
+/// Long labels in every style, most of them close to the limit, with rooms close to the length of
+/// the row; and copies that are refused for what stands in them far behind.
+pub fn limit(run: &Run) -> Result<Tally> {
+    let lengths = limit_lengths();
+    run.blocks(lengths.len() as u64, |worker, block| {
+        let mut random = Random::new(run.seed, "encode-limit", block);
+        let n = lengths[block as usize];
+        for (way, style) in STYLES.into_iter().enumerate() {
+            let mut text = inputs::label(&mut random, n, style);
+            with_rooms(worker, &mut random, &text, n)?;
+            spoil_far(&mut random, &mut text, n + way);
+            let (said, room) = (ask::ask(&text), inputs::room(&mut random, model::cells(n)));
+            with_room(worker, &text, &said, room, random.mark())?;
+        }
+        Ok(())
+    })
+}
+
+/// Spoils a long label in one of six ways: by a code point without a number at the end or close to
+/// it, by a digit left over, by a ź at the end or at place 1, or by both of these and €.
+fn spoil_far(random: &mut Random, text: &mut Vec<u32>, way: usize) {
+    match way % 6 {
+        0 => text.push(0x20AC),
+        1 => text.insert(text.len() - random.below(40), 0x7F),
+        2 => text.extend([SWITCH[2], 0x39]),
+        3 => text.push(FNC2),
+        4 => text.insert(1, FNC2),
+        _ => {
+            text.insert(1, FNC2);
+            text.extend([FNC2, 0x20AC]);
+        }
+    }
 }
 
 /// Texts of far more symbols than the limit, without ź and with it: one that the crate accepts, and
@@ -252,8 +301,8 @@ pub fn far(run: &Run) -> Result<Tally> {
         65_535,
         65_536,
         65_537,
-        65_536 + 255,
-        65_536 + 256,
+        65_536 + LIMIT,
+        65_536 + LIMIT + 1,
         70_000,
     ];
     run.blocks(lengths.len() as u64, |worker, block| {
@@ -271,7 +320,7 @@ pub fn far(run: &Run) -> Result<Tally> {
 
 /// Compares one text of far more symbols than the limit.
 fn far_one(worker: &mut Worker, random: &mut Random, text: &[u32]) -> Result<()> {
-    let room = inputs::room(random, 2829);
+    let room = inputs::room(random, model::cells(LIMIT));
     with_room(worker, text, &ask::ask(text), room, random.mark())
 }
 
@@ -310,7 +359,7 @@ pub fn retired_random(run: &Run) -> Result<Tally> {
             Crate::Row(row) => (0, row.len()),
             _ => (place_for(&text, &said), 35),
         };
-        worker.count_text(&text, &said);
+        worker.count_text(&said);
         worker.drop_in(&text, &said)?;
         for room in inputs::near(need) {
             worker.encode_known(&text, &said, place, room, random.mark())?;

@@ -5,11 +5,14 @@ use crate::inputs;
 use crate::model::{accept, refuse, Said, LIMIT};
 use crate::random::Random;
 use crate::run::{Result, Run};
-use std::ops::RangeInclusive;
 use std::sync::atomic::{AtomicBool, Ordering};
 
 /// How far apart two data symbols are that change places.
-const DISTANCES: [usize; 6] = [1, 2, 102, 103, 104, 206];
+const DISTANCES: [usize; 8] = [1, 2, 102, 103, 104, 206, 1030, 3914];
+/// Up to this number of symbols every two blocks so far apart change places, in longer rows some.
+const EVERY: usize = 260;
+/// The numbers of symbols of the longer rows. The check of 3,914 symbols weighs a multiple of 103.
+const LONG: [usize; 3] = [1031, 3914, LIMIT];
 
 /// Two different blocks of a row of n symbols that changed places; the right one may be the check.
 #[derive(Clone, Copy)]
@@ -41,16 +44,20 @@ impl Exchange {
 type Wanted = (&'static str, fn(Exchange) -> bool);
 
 /// Every exchange that the part must meet.
-const WANTED: [Wanted; 9] = [
+const WANTED: [Wanted; 13] = [
     ("neighbours at 102 and 103", |met| met.is(102, 103)),
     ("neighbours at 103 and 104", |met| met.is(103, 104)),
     ("neighbours at 205 and 206", |met| met.is(205, 206)),
     ("neighbours at 206 and 207", |met| met.is(206, 207)),
+    ("neighbours at 3913 and 3914", |met| met.is(3913, 3914)),
+    ("neighbours at 3914 and 3915", |met| met.is(3914, 3915)),
     ("the last two", |met| met.is(met.n - 2, met.n - 1)),
     ("103 apart and accepted", |met| met.accepted_apart(103)),
     ("206 apart and accepted", |met| met.accepted_apart(206)),
+    ("3914 apart and accepted", |met| met.accepted_apart(3914)),
     ("check of 103 accepted", |met| met.accepted_check(103)),
     ("check of 206 accepted", |met| met.accepted_check(206)),
+    ("check of 3914 accepted", |met| met.accepted_check(3914)),
 ];
 
 /// The right check of a list: the START weighs 1, and the symbol at place i weighs i.
@@ -76,11 +83,11 @@ fn said(list: &[u8], accepted: bool, room: usize) -> Said<u8> {
     }
 }
 
-/// The buffer lengths to try: all four if read accepts, and for neighbours around the places 103
-/// and 206 and at the end; otherwise one of the four, by the left block, to save time.
+/// The buffer lengths to try: all four if read accepts, and for neighbours around the multiples of
+/// 103 and at the end; otherwise one of the four, by the left block, to save time.
 fn rooms(n: usize, left: usize, right: usize, accepted: bool) -> Vec<usize> {
     let mut rooms = vec![0, n - 1, n, LIMIT];
-    let edge = right - left == 1 && (matches!(right, 103 | 104 | 206 | 207) || right + 1 >= n);
+    let edge = right - left == 1 && (matches!(right % 103, 0 | 1) || right + 1 >= n);
     if !accepted && !edge {
         return vec![rooms[left % 4]];
     }
@@ -99,8 +106,8 @@ fn held(worker: &mut Worker, row: &[u8], said: &Said<u8>, room: usize) -> Result
 }
 
 /// Compares read on the row of a list in which two blocks change places. Read accepts it if the
-/// blocks are alike, if they are data and 103 or 206 apart, or if the right one is the check of 103
-/// or 206 symbols. Gives the exchange if the blocks differ.
+/// blocks are alike, if they are data and a multiple of 103 apart, or if the right one is the check
+/// and the number of symbols is such a multiple. Gives the exchange if the blocks differ.
 fn exchanged_at(
     worker: &mut Worker,
     list: &[u8],
@@ -135,27 +142,52 @@ fn pairs(n: usize) -> impl Iterator<Item = (usize, usize)> {
     DISTANCES
         .into_iter()
         .flat_map(move |far| (1..n.saturating_sub(far)).map(move |left| (left, left + far)))
+        .filter(move |&(left, right)| n <= EVERY || chosen(n, left, right))
         .chain([(n - 1, n)])
 }
 
+/// Whether two data symbols of a long row change places: neighbours around a multiple of 103, those
+/// further apart around every tenth multiple, some of those furthest apart, and the last ones.
+fn chosen(n: usize, left: usize, right: usize) -> bool {
+    let each = match right - left {
+        1 => 103,
+        3914 => 20,
+        _ => 1030,
+    };
+    matches!((left + 2) % each, 0..=3) || right + 1 == n
+}
+
 /// A random list of n symbols whose last number is not its check, so that the row of every n has
-/// an exchange of these two.
+/// an exchange of these two. In a long list no two neighbours are alike, since a place that is
+/// wanted is in one row alone.
 fn list(run: &Run, n: usize) -> Vec<u8> {
     let mut random = Random::new(run.seed, "read-exchanged", n as u64);
     loop {
-        let list = inputs::list(&mut random, n);
+        let mut list = inputs::list(&mut random, n);
+        if n > EVERY {
+            part_neighbours(&mut list);
+        }
         if usize::from(list[n - 1]) != right_check(&list) {
             return list;
         }
     }
 }
 
-/// Each of these numbers of symbols, from 3 on, with a random list and every exchange in its row.
-/// It is a difference if an exchange that is wanted is not met.
-pub fn among(run: &Run, lengths: RangeInclusive<usize>) -> Result<Tally> {
+/// Changes each data number that is like the one before it.
+fn part_neighbours(list: &mut [u8]) {
+    for place in 2..list.len() {
+        if list[place] == list[place - 1] {
+            list[place] = (list[place] + 1) % 103;
+        }
+    }
+}
+
+/// Each of these numbers of symbols, from 3 on, with a random list and the exchanges in its row. It
+/// is a difference if an exchange that is wanted is not met.
+pub fn among(run: &Run, lengths: &[usize]) -> Result<Tally> {
     let met = WANTED.map(|_| AtomicBool::new(false));
-    let tally = run.blocks(lengths.clone().count() as u64, |worker, block| {
-        let list = list(run, lengths.start() + block as usize);
+    let tally = run.blocks(lengths.len() as u64, |worker, block| {
+        let list = list(run, lengths[block as usize]);
         for (left, right) in pairs(list.len()) {
             if let Some(exchange) = exchanged_at(worker, &list, left, right)? {
                 for ((_, wanted), met) in WANTED.iter().zip(&met) {
@@ -178,7 +210,8 @@ pub fn among(run: &Run, lengths: RangeInclusive<usize>) -> Result<Tally> {
     Ok(tally)
 }
 
-/// Every number of symbols from 3 to 255.
+/// Every number of symbols from 3 to 260, and then the longer rows.
 pub fn all(run: &Run) -> Result<Tally> {
-    among(run, 3..=LIMIT)
+    let lengths: Vec<usize> = (3..=EVERY).chain(LONG).collect();
+    among(run, &lengths)
 }

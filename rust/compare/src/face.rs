@@ -119,7 +119,7 @@ pub enum Plant {
     CharacterFirst,
     /// Refusal 1 with the place of the last value that is not a scalar value.
     LastScalar,
-    /// Refusal 4 always with 256.
+    /// Refusal 4 always with 4,001.
     Needed,
     /// Pack answers the number of cells, not of bytes.
     Packed,
@@ -165,10 +165,28 @@ pub enum Plant {
     FarRefused,
     /// Refusal 14 with the check that is drawn.
     DrawnCheck,
+    /// 4,000 symbols are too many for every job.
+    LimitLess,
+    /// 4,001 symbols are not too many for encode, nor for draw, read and pack, which ask for room.
+    LimitMore,
+    /// The check of encode with weights of one byte.
+    ByteWeight,
+    /// Pack gives 255 symbols a version 2 record.
+    Early2,
+    /// Pack gives 256 symbols a version 1 record, with the low byte of the count.
+    Late1,
+    /// Pack writes the low byte of the count first, and unpack reads it so.
+    LittleEndian,
+    /// Unpack takes a version 2 record of a count up to 255.
+    SmallCount,
+    /// Refusal 22 for a count above 4,000 with the length that it would need.
+    LargeCount,
+    /// Unpack refuses a version 2 record of two bytes by 20.
+    TwoBytes,
 }
 
 /// Every plant and its name on the command line.
-pub const PLANTS: [(&str, Plant); 48] = [
+pub const PLANTS: [(&str, Plant); 57] = [
     ("place", Plant::Place),
     ("weight", Plant::Weight),
     ("touched", Plant::Touched),
@@ -217,6 +235,15 @@ pub const PLANTS: [(&str, Plant); 48] = [
     ("same-weight", Plant::SameWeight),
     ("far-refused", Plant::FarRefused),
     ("drawn-check", Plant::DrawnCheck),
+    ("limit-less", Plant::LimitLess),
+    ("limit-more", Plant::LimitMore),
+    ("byte-weight", Plant::ByteWeight),
+    ("early2", Plant::Early2),
+    ("late1", Plant::Late1),
+    ("little-endian", Plant::LittleEndian),
+    ("small-count", Plant::SmallCount),
+    ("large-count", Plant::LargeCount),
+    ("two-bytes", Plant::TwoBytes),
 ];
 
 /// The plants that give refusal 19 where another answer is right.
@@ -242,14 +269,18 @@ impl Wrong {
         }
     }
 
-    /// Puts a wrong check into an accepted row of n symbols: place i has weight i+1.
+    /// Puts a wrong check into an accepted row of n symbols, with the weights of this plant.
     fn weigh_wrongly(&self, row: &mut [u8], n: usize) {
+        let weight = |place: usize| match self.plant {
+            Plant::ByteWeight => place.max(1) % 256,
+            _ => place + 1,
+        };
         let numbers = row[..11 * n]
             .chunks(11)
             .map(|block| usize::from(self.model.number(block).unwrap_or(0)));
         let check = numbers
             .enumerate()
-            .map(|(i, number)| number * (i + 1))
+            .map(|(i, number)| number * weight(i))
             .sum::<usize>()
             % 103;
         row[11 * n..11 * n + 11].copy_from_slice(self.model.pattern(check as u8));
@@ -279,8 +310,8 @@ impl Wrong {
             Plant::TooShortFirst => Some(model::cells(symbols_of(text)))
                 .filter(|&need| need > row.len())
                 .map(|need| (5, need)),
-            Plant::KeptInA if in_set(0) => written(text, row),
-            Plant::KeptInB if in_set(1) => written(text, row),
+            Plant::KeptInA if in_set(0) => written(text, row, LIMIT),
+            Plant::KeptInB if in_set(1) => written(text, row, LIMIT),
             Plant::RetiredTouched => row.first_mut().map(|cell| {
                 *cell ^= 1;
                 (19, first)
@@ -310,6 +341,71 @@ impl Wrong {
             _ => None,
         };
         place.map(|place| (19, place))
+    }
+
+    /// A wrong answer of encode on either side of the limit, if this is such a plant.
+    fn beside_limit(&self, text: &[u32], row: &mut [u8]) -> Option<Answer> {
+        if !matches!(self.plant, Plant::LimitLess | Plant::LimitMore) {
+            return None;
+        }
+        match (self.plant, True.encode(text, &mut [])) {
+            (Plant::LimitLess, (5, need)) if need == model::cells(LIMIT) => Some((4, LIMIT)),
+            (Plant::LimitMore, (4, n)) if n == LIMIT + 1 => {
+                written(text, row, n).or(Some((5, model::cells(n))))
+            }
+            _ => None,
+        }
+    }
+
+    /// A wrong answer of another job to n symbols, whose refusal for this length is 10, or which
+    /// needs so much room.
+    fn beside_length(&self, n: usize, length: usize, need: usize) -> Option<Answer> {
+        match self.plant {
+            Plant::LimitLess if n == LIMIT => Some((10, length)),
+            Plant::LimitMore if n == LIMIT + 1 && need > 0 => Some((5, need)),
+            _ => None,
+        }
+    }
+
+    /// The head that this plant gives the record of n symbols, if it is wrong here.
+    fn wrong_head(&self, n: usize) -> Option<Vec<u8>> {
+        match (self.plant, n) {
+            (Plant::Early2, 255) => Some(model::head_of(2, n)),
+            (Plant::Late1, 256) => Some(model::head_of(1, n)),
+            (Plant::LittleEndian, 256..) => Some(low_first(&model::head_of(2, n))),
+            _ => None,
+        }
+    }
+
+    /// The record of a good row with another head than its own, or refusal 5.
+    fn packed_under(&self, row: &[u8], head: &[u8], record: &mut [u8]) -> Option<Answer> {
+        let own = self.model.pack(row, usize::MAX);
+        let body = row.len().div_ceil(8);
+        let wrong = [head, own.front.get(own.second.checked_sub(body)?..)?].concat();
+        if record.len() < wrong.len() {
+            return Some((5, wrong.len()));
+        }
+        record[..wrong.len()].copy_from_slice(&wrong);
+        Some((0, wrong.len()))
+    }
+
+    /// A wrong answer to a version 2 record, if this plant is wrong here.
+    fn wrong_of_version_2(&self, record: &[u8], row: &mut [u8]) -> Option<Answer> {
+        let count = match *record {
+            [2, high, low, ..] => 256 * usize::from(high) + usize::from(low),
+            [2, _] if self.plant == Plant::TwoBytes => return Some((20, 2)),
+            _ => return None,
+        };
+        match self.plant {
+            Plant::LimitLess if count == LIMIT => Some((22, 0)),
+            Plant::LittleEndian => Some(True.unpack(&low_first(record), row)),
+            Plant::SmallCount if count <= 255 => {
+                let first = [&[1], &record[2..]].concat();
+                Some(True.unpack(&first, row)).filter(|answer| matches!(answer.0, 0 | 5))
+            }
+            Plant::LargeCount if count > LIMIT => Some((22, model::bytes_of(2, count))),
+            _ => None,
+        }
     }
 
     /// Refusal 13 at the first 97 in set A or B of a good list, if this is the plant.
@@ -413,9 +509,21 @@ fn fnc2s_stand_in(text: &[u32], switch: u32) -> bool {
     })
 }
 
-/// Writes the crate's row of a text, if it has at most 255 symbols and there is room.
-fn written(text: &[u32], row: &mut [u8]) -> Option<Answer> {
-    let cells = ask::row(text).filter(|cells| cells.len() <= model::cells(LIMIT))?;
+/// The number of symbols of a row of this length, if it were one.
+fn symbols_in(length: usize) -> usize {
+    length.saturating_sub(24) / 11
+}
+
+/// The record, or a head of three bytes, with its second and third byte exchanged.
+fn low_first(record: &[u8]) -> Vec<u8> {
+    let mut other = record.to_vec();
+    other.swap(1, 2);
+    other
+}
+
+/// Writes the crate's row of a text, if it has at most so many symbols and there is room.
+fn written(text: &[u32], row: &mut [u8], most: usize) -> Option<Answer> {
+    let cells = ask::row(text).filter(|cells| cells.len() <= model::cells(most))?;
     row.get_mut(..cells.len())?.copy_from_slice(&cells);
     Some((0, (cells.len() - 24) / 11))
 }
@@ -472,7 +580,8 @@ fn misread(plant: Plant, list: &[u8]) -> Option<Vec<u8>> {
 
 impl Face for Wrong {
     fn encode(&self, text: &[u32], row: &mut [u8]) -> Answer {
-        if let Some(answer) = self.needless_19(text) {
+        let wrong = self.needless_19(text);
+        if let Some(answer) = wrong.or_else(|| self.beside_limit(text, row)) {
             return answer;
         }
         let before = row.first().copied();
@@ -484,7 +593,7 @@ impl Face for Wrong {
         let answer = True.encode(text, row);
         match (self.plant, answer) {
             (Plant::Place, (3, place)) if place >= 2 => (3, place + 1),
-            (Plant::Weight, (0, n)) => {
+            (Plant::Weight | Plant::ByteWeight, (0, n)) => {
                 self.weigh_wrongly(row, n);
                 answer
             }
@@ -499,7 +608,7 @@ impl Face for Wrong {
                 _ => answer,
             },
             (Plant::LastScalar, (1, first)) => (1, last_no_scalar(text).unwrap_or(first)),
-            (Plant::Needed, (4, _)) => (4, 256),
+            (Plant::Needed, (4, _)) => (4, LIMIT + 1),
             (Plant::Held, (0, _)) if held_at(text).is_some() => {
                 row.copy_from_slice(&kept);
                 (3, 2)
@@ -510,7 +619,9 @@ impl Face for Wrong {
     }
 
     fn draw(&self, list: &[u8], row: &mut [u8]) -> Answer {
-        if let Some(answer) = self.refused_97(Plant::Draw97, list) {
+        let wrong = self.refused_97(Plant::Draw97, list);
+        let beside = || self.beside_length(list.len(), list.len(), model::cells(list.len()));
+        if let Some(answer) = wrong.or_else(beside) {
             return answer;
         }
         let answer = True.draw(list, row);
@@ -533,6 +644,10 @@ impl Face for Wrong {
         if self.grows_far(row) {
             return (14, self.drawn_check(row));
         }
+        let n = symbols_in(row.len());
+        if let Some(answer) = self.beside_length(n, row.len(), n) {
+            return answer;
+        }
         match (self.plant, True.read(row, list)) {
             (Plant::SameWeight, (14, right)) => in_either_order(row, list).unwrap_or((14, right)),
             (Plant::DrawnCheck, (14, _)) => (14, self.drawn_check(row)),
@@ -553,7 +668,8 @@ impl Face for Wrong {
     }
 
     fn spell(&self, list: &[u8], text: &mut [u32]) -> Answer {
-        if let Some(answer) = self.refused_97(Plant::Spell97, list) {
+        let wrong = self.refused_97(Plant::Spell97, list);
+        if let Some(answer) = wrong.or_else(|| self.beside_length(list.len(), list.len(), 0)) {
             return answer;
         }
         match (self.plant, True.spell(list, &mut text.to_vec())) {
@@ -564,7 +680,8 @@ impl Face for Wrong {
     }
 
     fn scan(&self, list: &[u8], bytes: &mut [u8]) -> Answer {
-        if let Some(answer) = self.refused_97(Plant::Scan97, list) {
+        let wrong = self.refused_97(Plant::Scan97, list);
+        if let Some(answer) = wrong.or_else(|| self.beside_length(list.len(), list.len(), 0)) {
             return answer;
         }
         let good = |list: &[u8]| matches!(True.scan(list, &mut []).0, 0 | 5);
@@ -575,6 +692,13 @@ impl Face for Wrong {
     }
 
     fn pack(&self, row: &[u8], record: &mut [u8]) -> Answer {
+        let n = symbols_in(row.len());
+        let head = self.wrong_head(n);
+        let wrong = head.and_then(|head| self.packed_under(row, &head, record));
+        let beside = || self.beside_length(n, row.len(), model::record_bytes(n));
+        if let Some(answer) = wrong.or_else(beside) {
+            return answer;
+        }
         match (self.plant, True.pack(row, record)) {
             (Plant::Packed, (0, _)) => (0, row.len()),
             (_, answer) => answer,
@@ -582,6 +706,9 @@ impl Face for Wrong {
     }
 
     fn unpack(&self, record: &[u8], row: &mut [u8]) -> Answer {
+        if let Some(answer) = self.wrong_of_version_2(record, row) {
+            return answer;
+        }
         match (self.plant, True.unpack(record, row)) {
             (Plant::Spare, (23, last)) => {
                 let mut clean = record.to_vec();

@@ -128,16 +128,23 @@ fn ordinary(random: &mut Random, set: usize) -> u32 {
     }
 }
 
-/// The number of symbols of a random label: mostly small, sometimes large, seldom close to the
-/// limit.
+/// The number of symbols of a random label: mostly small, sometimes large, seldom on each side of
+/// 255, and more seldom up to the limit or close to it.
 pub fn symbols(random: &mut Random) -> usize {
-    match random.below(1000) {
-        0..=919 => 1 + random.below(9),
-        920..=987 => 10 + random.below(30),
-        988..=995 => 40 + random.below(160),
-        996 | 997 => 200 + random.below(100),
-        _ => 250 + random.below(12),
+    match random.below(2000) {
+        0..=1839 => 1 + random.below(9),
+        1840..=1975 => 10 + random.below(30),
+        1976..=1991 => 40 + random.below(160),
+        1992..=1994 => 200 + random.below(100),
+        1995..=1998 => 250 + random.below(12),
+        _ if random.chance(50) => 300 + random.below(LIMIT - 300),
+        _ => close_to_limit(random),
     }
+}
+
+/// A number of symbols on either side of the limit.
+fn close_to_limit(random: &mut Random) -> usize {
+    LIMIT - 5 + random.below(12)
 }
 
 /// A random text: a good label, a damaged label, or any code points of the alphabet. Fewer of the
@@ -158,10 +165,12 @@ pub fn text(random: &mut Random, alphabet: &[u32]) -> Vec<u32> {
 }
 
 /// A random text with ź: a good label, or one in which a ź or a code point without a number is put
-/// in, that ends with a digit left over, or that is damaged. One in eight is close to the limit.
+/// in, that ends with a digit left over, or that is damaged. Of 64 one is close to the limit, and
+/// seven are on each side of 255 symbols.
 pub fn text_with_fnc2(random: &mut Random, alphabet: &[u32]) -> Vec<u32> {
-    let n = match random.below(8) {
-        0 => 250 + random.below(12),
+    let n = match random.below(64) {
+        0 => close_to_limit(random),
+        1..=7 => 250 + random.below(12),
         _ => symbols(random),
     };
     let mut text = label(random, n, Style::Retired);
@@ -264,7 +273,7 @@ pub fn list_in(random: &mut Random, n: usize, set: usize) -> Vec<u8> {
     (0..n).map(|place| if place == 0 { 103 + set } else { random.below(end) } as u8).collect()
 }
 
-/// Damages a symbol list in one place.
+/// Damages a symbol list in one place, or makes it longer, seldom by more than the limit.
 pub fn damage_list(random: &mut Random, list: &mut Vec<u8>) {
     if list.is_empty() {
         return;
@@ -276,7 +285,10 @@ pub fn damage_list(random: &mut Random, list: &mut Vec<u8>) {
         2 => drop(list.remove(place)),
         3 => list.insert(place, random.byte()),
         4 => list.swap(0, place),
-        _ => list.extend(vec![random.byte(); random.below(300)]),
+        _ => {
+            let most = if random.chance(10) { 2 * LIMIT } else { 300 };
+            list.extend(vec![random.byte(); random.below(most)]);
+        }
     }
 }
 
@@ -324,6 +336,16 @@ pub fn length(random: &mut Random) -> usize {
     symbols(random).min(LIMIT)
 }
 
+/// The number of symbols of a random list, more often large: one in eight is of any length up to
+/// 300, and one in 400 of any length up to the limit.
+pub fn any_length(random: &mut Random) -> usize {
+    match random.below(400) {
+        0 => 1 + random.below(LIMIT),
+        1..=49 => 1 + random.below(300),
+        _ => length(random),
+    }
+}
+
 /// Buffer lengths close to the one that is needed.
 pub fn near(need: usize) -> Vec<usize> {
     let mut rooms = vec![
@@ -341,14 +363,15 @@ pub fn near(need: usize) -> Vec<usize> {
     rooms
 }
 
-/// A random buffer length, mostly close to the one that is needed.
+/// A random buffer length, mostly close to the one that is needed, seldom enough for every row.
 pub fn room(random: &mut Random, need: usize) -> usize {
-    match random.below(20) {
-        0 => 0,
-        1..=3 => need.saturating_sub(1),
-        4..=11 => need,
-        12..=16 => need + 1 + random.below(40),
-        17 | 18 => random.below(need + 50),
-        _ => 2829 + random.below(40),
+    match random.below(200) {
+        0..=9 => 0,
+        10..=39 => need.saturating_sub(1),
+        40..=119 => need,
+        120..=169 => need + 1 + random.below(40),
+        170..=189 => random.below(need + 50),
+        190..=198 => need + random.below(3000),
+        _ => model::cells(LIMIT) + random.below(40),
     }
 }

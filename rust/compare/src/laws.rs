@@ -19,6 +19,9 @@ fn made<T: Element>(
     }
 }
 
+/// How much longer a buffer is than what a job can need for its input.
+const MORE: usize = 50;
+
 /// What encode must give for a text that the crate accepts with this row: the row, or refusal 19 at
 /// the first ź.
 pub fn given(text: &[u32], row: &[u8]) -> Result<Vec<u8>, Answer> {
@@ -34,24 +37,46 @@ fn itself(n: usize) -> usize {
 }
 
 impl Worker<'_> {
-    /// The row that encode writes.
+    /// The row that encode writes; a text has no more symbols than code points.
     pub fn made_row(&self, text: &[u32]) -> Result<Vec<u8>, Answer> {
-        made(3000, model::cells, |row| self.face.encode(text, row))
+        let room = model::cells(text.len()) + MORE;
+        made(room, model::cells, |row| self.face.encode(text, row))
     }
 
     /// The row that draw writes.
     fn drawn(&self, list: &[u8]) -> Result<Vec<u8>, Answer> {
-        made(3000, model::cells, |row| self.face.draw(list, row))
+        let room = model::cells(list.len()) + MORE;
+        made(room, model::cells, |row| self.face.draw(list, row))
     }
 
     /// The list that read writes.
     fn list_read(&self, row: &[u8]) -> Result<Vec<u8>, Answer> {
-        made(300, itself, |list| self.face.read(row, list))
+        let room = row.len() / 11 + MORE;
+        made(room, itself, |list| self.face.read(row, list))
     }
 
     /// The text that spell writes.
     fn spelled(&self, list: &[u8]) -> Result<Vec<u32>, Answer> {
-        made(600, itself, |text| self.face.spell(list, text))
+        let room = 2 * list.len() + MORE;
+        made(room, itself, |text| self.face.spell(list, text))
+    }
+
+    /// The bytes that scan writes.
+    fn sent(&self, list: &[u8]) -> Result<Vec<u8>, Answer> {
+        let room = 2 * list.len() + MORE;
+        made(room, itself, |bytes| self.face.scan(list, bytes))
+    }
+
+    /// The record that pack writes.
+    pub fn packed(&self, row: &[u8]) -> Result<Vec<u8>, Answer> {
+        let room = row.len().div_ceil(8) + MORE;
+        made(room, itself, |record| self.face.pack(row, record))
+    }
+
+    /// The cells that unpack writes.
+    fn unpacked(&self, record: &[u8]) -> Result<Vec<u8>, Answer> {
+        let room = 8 * record.len() + MORE;
+        made(room, itself, |row| self.face.unpack(record, row))
     }
 
     /// Compares two values, for a law.
@@ -196,7 +221,7 @@ impl Worker<'_> {
             need,
             self.face.scan(list, &mut []),
         )?;
-        let bytes = made(600, itself, |bytes: &mut [u8]| self.face.scan(list, bytes));
+        let bytes = self.sent(list);
         self.same(
             law,
             &shown,
@@ -213,12 +238,10 @@ impl Worker<'_> {
 
     /// Cells that are packed are unpacked to the same cells.
     pub fn row_law(&mut self, row: &[u8]) -> Result<(), Box<Fault>> {
-        let Ok(record) = made(400, itself, |record: &mut [u8]| self.face.pack(row, record)) else {
+        let Ok(record) = self.packed(row) else {
             return Ok(());
         };
-        let back = made(3000, itself, |cells: &mut [u8]| {
-            self.face.unpack(&record, cells)
-        });
+        let back = self.unpacked(&record);
         self.same(
             Subject::RowLaw,
             &wide(row),
@@ -232,12 +255,10 @@ impl Worker<'_> {
 
     /// A record that is unpacked is packed to the same bytes.
     pub fn record_law(&mut self, record: &[u8]) -> Result<(), Box<Fault>> {
-        let Ok(row) = made(3000, itself, |row: &mut [u8]| self.face.unpack(record, row)) else {
+        let Ok(row) = self.unpacked(record) else {
             return Ok(());
         };
-        let back = made(400, itself, |record: &mut [u8]| {
-            self.face.pack(&row, record)
-        });
+        let back = self.packed(&row);
         self.same(
             Subject::RecordLaw,
             &wide(record),

@@ -27,6 +27,7 @@ pub mod records;
 pub mod report;
 pub mod run;
 pub mod shrink;
+pub mod versions;
 
 use check::{Fault, Tally, Worker};
 use listed::LIST;
@@ -48,7 +49,7 @@ const fn part(name: &'static str, encode: bool, work: fn(&Run) -> run::Result<Ta
 }
 
 /// Every part, in the order of a run.
-pub const PARTS: [Part; 23] = [
+pub const PARTS: [Part; 25] = [
     part("encode-all", true, encode::all),
     part("encode-points", true, encode::points),
     part("encode-lengths", true, |run| {
@@ -56,6 +57,7 @@ pub const PARTS: [Part; 23] = [
         tally.add(&encode::far(run)?);
         Ok(tally)
     }),
+    part("encode-limit", true, encode::limit),
     part("encode-random", true, encode::random),
     part("encode-retired", true, |run| {
         let mut tally = encode::retired(run)?;
@@ -68,8 +70,8 @@ pub const PARTS: [Part; 23] = [
     part("read-replaced", false, read::replaced),
     part("read-cells", false, read::cells),
     part("read-worn", false, |run| {
-        let mut tally = read::pairs(run)?;
-        tally.add(&read::beside(run)?);
+        let mut tally = read::beside(run)?;
+        tally.add(&read::pairs(run)?);
         Ok(tally)
     }),
     part("read-exchanged", false, exchanged::all),
@@ -92,6 +94,11 @@ pub const PARTS: [Part; 23] = [
         tally.add(&records::lengths(run)?);
         Ok(tally)
     }),
+    part("records-versions", false, |run| {
+        let mut tally = versions::rows(run)?;
+        tally.add(&versions::counts(run)?);
+        Ok(tally)
+    }),
     part("records-random", false, records::random),
 ];
 
@@ -100,11 +107,12 @@ const REFUSALS: [usize; 17] = [
     1, 2, 3, 4, 5, 10, 11, 12, 13, 14, 15, 16, 19, 20, 21, 22, 23,
 ];
 
-/// What a whole run must come across and this tally has not: an accepted call, each refusal, each
-/// row of the list, the type with the crate's signatures.
+/// What a whole run must come across and this tally has not: an accepted call, one of encode with
+/// more than 255 symbols, each refusal, each row of the list, the type with the crate's signatures.
 pub fn unmet(tally: &Tally) -> Vec<String> {
     let kinds = [
         ("an accepted call".into(), tally.accepted),
+        ("a row of more than 255 symbols".into(), tally.long),
         ("the type with the crate's signatures".into(), tally.drop_in),
     ]
     .into_iter();

@@ -11,7 +11,7 @@ pub enum Listed {
     NoScalar,
     /// The text has a ź: the crate writes its row.
     Retired,
-    /// More than 255 symbols: the crate has no limit.
+    /// More than 4,000 symbols: the crate has no limit.
     TooMany,
     /// The buffer is too short: the crate makes a vector of its own.
     TooShort,
@@ -29,7 +29,7 @@ pub enum Listed {
 pub const LIST: [(Listed, &str); 8] = [
     (Listed::NoScalar, "Refusal 1, no scalar value"),
     (Listed::Retired, "Refusal 19, ź (FNC2, 97) is retired"),
-    (Listed::TooMany, "Refusal 4, more than 255 symbols"),
+    (Listed::TooMany, "Refusal 4, more than 4,000 symbols"),
     (Listed::TooShort, "Refusal 5, output too short"),
     (Listed::Divide, "÷ for DEL: number 95 in set B"),
     (Listed::Shift, "Ž (Shift, 98) shifts nothing in encode"),

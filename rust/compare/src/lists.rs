@@ -111,21 +111,22 @@ fn with_any_room(worker: &mut Worker, random: &mut Random, list: &[u8]) -> Resul
         .map(drop)
 }
 
-/// Lists of every length up to 300, and of some lengths that would overflow 8 or 16 bits.
+/// The lengths of lists: each one on either side of the limit and up to 300, and some that would
+/// overflow 8, 12 or 16 bits.
+fn list_lengths() -> Vec<usize> {
+    let between = [511, 512, 513, 767, 768, 1000, 2047, 2048, 2049];
+    let above = [4095, 4096, 4097, 65_535, 65_536, 65_537];
+    (LIMIT - 4..=LIMIT + 5)
+        .chain(0..=300)
+        .chain(between)
+        .chain(above)
+        .chain([65_536 + 255, 65_536 + LIMIT])
+        .collect()
+}
+
+/// Lists of these lengths, good and bad.
 pub fn lengths(run: &Run) -> Result<Tally> {
-    let lengths: Vec<usize> = (0..=300)
-        .chain([
-            511,
-            512,
-            513,
-            767,
-            768,
-            65_535,
-            65_536,
-            65_537,
-            65_536 + 255,
-        ])
-        .collect();
+    let lengths = list_lengths();
     run.blocks(lengths.len() as u64, |worker, block| {
         let mut random = Random::new(run.seed, "list-lengths", block);
         let length = lengths[block as usize];
@@ -199,13 +200,10 @@ fn shift_known(worker: &mut Worker, list: &[u8], bytes: &[u8]) -> Result<()> {
     worker.shift_law(list)
 }
 
-/// Random lists with many Shifts and random room; one in eight of any length up to the limit.
+/// Random lists with many Shifts and random room; some of any length up to the limit.
 pub fn shift_random(run: &Run) -> Result<Tally> {
     run.random_blocks("lists-shift-random", run.random / 10, |worker, random| {
-        let n = match random.below(8) {
-            0 => 1 + random.below(LIMIT),
-            _ => inputs::length(random),
-        };
+        let n = inputs::any_length(random);
         let list = inputs::list_of_shifts(random, n);
         with_any_room(worker, random, &list)?;
         worker.shift_law(&list)
@@ -276,13 +274,10 @@ fn read_and_encoded(worker: &mut Worker, list: &[u8]) -> Result<()> {
     Ok(())
 }
 
-/// Random lists with many 97 and random room; one in eight of any length up to the limit.
+/// Random lists with many 97 and random room; some of any length up to the limit.
 pub fn retired_random(run: &Run) -> Result<Tally> {
     run.random_blocks("lists-retired", run.random / 80, |worker, random| {
-        let n = match random.below(8) {
-            0 => 1 + random.below(LIMIT),
-            _ => inputs::length(random),
-        };
+        let n = inputs::any_length(random);
         let list = inputs::list_of_97(random, n);
         with_any_room(worker, random, &list)?;
         worker.list_law(&list)?;

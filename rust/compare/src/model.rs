@@ -1,5 +1,5 @@
 //! A plain model of six jobs, and of the one rule of encode that the crate lacks, written from
-//! document 01 and requests 1, 3 and 12 of document 02. It is given the bar patterns and uses
+//! document 01 and requests 1, 3, 4 and 12 of document 02. It is given the bar patterns and uses
 //! nothing else.
 
 /// What a job must answer: the answer number, the second number, and the elements at the front of
@@ -41,7 +41,7 @@ fn in_room<T>(room: usize, second: usize, front: Vec<T>) -> Said<T> {
 }
 
 /// The largest n, the number of symbols in a list.
-pub const LIMIT: usize = 255;
+pub const LIMIT: usize = 4000;
 /// The stop, as document 01 writes it.
 pub const STOP: [u8; 13] = [1, 1, 0, 0, 0, 1, 1, 1, 0, 1, 0, 1, 1];
 /// The switches À, Ɓ and Ć to the sets A, B and C, which are 0, 1 and 2 here.
@@ -58,9 +58,47 @@ pub fn cells(n: usize) -> usize {
     11 * (n + 1) + 13
 }
 
+/// The head of a record: version 1 has a count of one byte, version 2 of two, the high one first.
+/// For another version it is that of version 1.
+pub fn head_of(version: u8, count: usize) -> Vec<u8> {
+    match version {
+        2 => vec![2, (count / 256) as u8, (count % 256) as u8],
+        _ => vec![version, count as u8],
+    }
+}
+
+/// The version of the record of a row of n symbols: 1 if the count fits in a byte, otherwise 2.
+/// Up to 255 symbols the records are those of before request 4, byte for byte.
+pub fn version_for(n: usize) -> u8 {
+    match n {
+        0..=255 => 1,
+        _ => 2,
+    }
+}
+
+/// The number of bytes in a record of this version for n symbols.
+pub fn bytes_of(version: u8, n: usize) -> usize {
+    head_of(version, n).len() + cells(n).div_ceil(8)
+}
+
 /// The number of bytes in the record of a row of n symbols.
 pub fn record_bytes(n: usize) -> usize {
-    2 + (11 * n + 24).div_ceil(8)
+    bytes_of(version_for(n), n)
+}
+
+/// The count of a record; or refusal 20, 21 or, with 0, 22.
+fn counted(record: &[u8]) -> Result<usize, (u32, usize)> {
+    match *record {
+        [] | [_] => Err((20, record.len())),
+        [1, 0, ..] => Err((22, 0)),
+        [1, count, ..] => Ok(usize::from(count)),
+        [2, high, low, ..] => match 256 * usize::from(high) + usize::from(low) {
+            count @ 256..=LIMIT => Ok(count),
+            _ => Err((22, 0)),
+        },
+        [2, _] => Err((22, 0)),
+        [version, ..] => Err((21, usize::from(version))),
+    }
 }
 
 /// The n of a row of this length, if there is one within the limit.
@@ -344,7 +382,7 @@ impl Model {
         if let Some(place) = row.iter().position(|&cell| cell > 1) {
             return refuse(11, place);
         }
-        let mut record = vec![1, n as u8];
+        let mut record = head_of(version_for(n), n);
         record.extend(row.chunks(8).map(|eight| {
             eight
                 .iter()
@@ -357,20 +395,14 @@ impl Model {
 
     /// Unpack, with the refusals 20, 21, 22, 23, 5 in this order.
     pub fn unpack(&self, record: &[u8], room: usize) -> Said<u8> {
-        if record.len() < 2 {
-            return refuse(20, record.len());
-        }
-        if record[0] != 1 {
-            return refuse(21, usize::from(record[0]));
-        }
-        let n = usize::from(record[1]);
-        if n == 0 {
-            return refuse(22, 0);
-        }
+        let n = match counted(record) {
+            Ok(n) => n,
+            Err((number, second)) => return refuse(number, second),
+        };
         if record.len() != record_bytes(n) {
             return refuse(22, record_bytes(n));
         }
-        let mut row: Vec<u8> = record[2..]
+        let mut row: Vec<u8> = record[head_of(record[0], n).len()..]
             .iter()
             .flat_map(|&byte| (0..8).map(move |i| (byte >> (7 - i)) & 1))
             .collect();

@@ -77,29 +77,35 @@ pub fn all(run: &Run) -> Result<Tally> {
     Ok(tally)
 }
 
-/// Lists whose rows are damaged at every place: short lists, lists that end near the places 103 and
-/// 206, the longest one.
-fn lists(run: &Run, part: &str) -> Vec<Vec<u8>> {
+/// The numbers of symbols in rows that are damaged at every block: short ones, some that end near
+/// the places 103 and 206, and both sides of 255.
+const SHORT: [usize; 18] = [
+    1, 1, 1, 2, 3, 5, 9, 14, 17, 40, 103, 104, 105, 206, 207, 208, 255, 256,
+];
+
+/// A list, and the blocks at which its row is damaged.
+type Damaged = (Vec<u8>, Vec<usize>);
+
+/// The short rows, at every block with the check; and then the long ones, at some blocks.
+fn damaged(run: &Run, part: &str, long: &[(usize, Vec<usize>)]) -> Vec<Damaged> {
     let mut random = Random::new(run.seed, part, 0);
-    let lengths = [
-        1, 1, 1, 2, 3, 5, 9, 14, 17, 40, 103, 104, 105, 206, 207, 208, 255,
-    ];
-    lengths
+    let short = SHORT.map(|n| (n, (0..=n).collect()));
+    short
         .iter()
-        .map(|&n| inputs::list(&mut random, n))
+        .chain(long)
+        .map(|(n, blocks)| (inputs::list(&mut random, *n), blocks.clone()))
         .collect()
 }
 
-/// Does the work at every block of the row of every list, the check included.
-fn at_every_block(
+/// Does the work at each of these blocks of the row of each list.
+fn at_blocks(
     run: &Run,
-    part: &str,
+    lists: &[Damaged],
     work: impl Fn(&mut Worker, &[u8], usize) -> Result<()> + Sync,
 ) -> Result<Tally> {
-    let lists = lists(run, part);
     let places: Vec<(&[u8], usize)> = lists
         .iter()
-        .flat_map(|list| (0..=list.len()).map(move |block| (&list[..], block)))
+        .flat_map(|(list, blocks)| blocks.iter().map(move |&block| (&list[..], block)))
         .collect();
     run.blocks(places.len() as u64, |worker, number| {
         let (list, block) = places[number as usize];
@@ -107,15 +113,55 @@ fn at_every_block(
     })
 }
 
-/// One symbol replaced at this place by every number. Read refuses, except for a data symbol at
-/// place 103 or 206 that is replaced by a number up to 102.
+/// Does the work at every block of the short rows, and at a few of one of 1,000 symbols and of the
+/// longest.
+fn at_every_block(
+    run: &Run,
+    part: &str,
+    work: impl Fn(&mut Worker, &[u8], usize) -> Result<()> + Sync,
+) -> Result<Tally> {
+    let few = [1000, LIMIT].map(|n| (n, vec![0, 103, n / 2, n - 1, n]));
+    at_blocks(run, &damaged(run, part, &few), work)
+}
+
+/// The blocks from this one on that are around a multiple of 103, and the last two blocks.
+fn around_103(n: usize, from: usize) -> Vec<usize> {
+    (from..=n)
+        .filter(|&block| matches!(block % 103, 0 | 1 | 102) || block + 2 > n)
+        .collect()
+}
+
+/// The long rows in which symbols are replaced: around every multiple of 103, or around the last of
+/// them. In a row of 3,914 symbols the last multiple is the check; in one of 3,915 it is data.
+fn replaced_long() -> [(usize, Vec<usize>); 6] {
+    [
+        (310, 0),
+        (1031, 0),
+        (2061, 2059),
+        (3914, 3810),
+        (3915, 3810),
+        (LIMIT, 0),
+    ]
+    .map(|(n, from)| (n, around_103(n, from)))
+}
+
+/// The numbers that replace a symbol: every one in a short row, and in the longest at the multiples
+/// of 103; elsewhere every twelfth, by turns, and all from 102 on.
+fn replacing(n: usize, block: usize) -> impl Iterator<Item = u8> {
+    let every = n <= 310 || (n == LIMIT && block % 103 == 0);
+    let twelfth = (block / 103 % 12) as u8;
+    (0..106).filter(move |&number| every || number >= 102 || number % 12 == twelfth)
+}
+
+/// One symbol replaced at this place. Read refuses, except for a data symbol at a multiple of 103
+/// that is replaced by a number up to 102.
 fn replaced_at(worker: &mut Worker, list: &[u8], block: usize) -> Result<()> {
     let good = worker.model.row_of_list(list);
-    for number in 0..106 {
+    let data = (1..list.len()).contains(&block);
+    for number in replacing(list.len(), block) {
         let mut row = good.clone();
         row[11 * block..11 * block + 11].copy_from_slice(worker.model.pattern(number));
-        let allowed =
-            row == good || (block < list.len() && matches!(block, 103 | 206) && number <= 102);
+        let allowed = row == good || (data && block % 103 == 0 && number <= 102);
         worker.tally.inputs += 1;
         let accepted = worker.read(&row, list.len(), 0xA7)? == 0;
         if accepted != allowed {
@@ -131,12 +177,14 @@ fn replaced_at(worker: &mut Worker, list: &[u8], block: usize) -> Result<()> {
     Ok(())
 }
 
-/// One symbol replaced at every place by every number.
+/// One symbol replaced: at every place of a short row, and around multiples of 103 in a long one.
 pub fn replaced(run: &Run) -> Result<Tally> {
-    at_every_block(run, "read-replaced", replaced_at)
+    let lists = damaged(run, "read-replaced", &replaced_long());
+    at_blocks(run, &lists, replaced_at)
 }
 
-/// One cell changed at every place: flipped, or set to a value that is neither 0 nor 1.
+/// One cell changed at every place of these blocks, and of the stop after the check: flipped, or
+/// set to a value that is neither 0 nor 1.
 pub fn cells(run: &Run) -> Result<Tally> {
     at_every_block(run, "read-cells", |worker, list, block| {
         let good = worker.model.row_of_list(list);
@@ -152,11 +200,12 @@ pub fn cells(run: &Run) -> Result<Tally> {
 /// Compares read and pack with one cell flipped or set to another value.
 fn spoiled_at(worker: &mut Worker, good: &[u8], place: usize) -> Result<()> {
     let mut row = good.to_vec();
+    let record = model::record_bytes((row.len() - 24) / 11);
     for cell in [1 - good[place], 2, 3, 128, 255] {
         row[place] = cell;
         worker.tally.inputs += 1;
         worker.read(&row, LIMIT, 0x5C)?;
-        worker.pack(&row, 356, 0x5C)?;
+        worker.pack(&row, record, 0x5C)?;
         if cell <= 1 {
             flipped_at(worker, &row, place)?;
         }
@@ -180,8 +229,8 @@ fn flipped_at(worker: &mut Worker, row: &[u8], place: usize) -> Result<()> {
         .try_for_each(|room| worker.read_known(row, &said, room, 0xA7).map(drop))
 }
 
-/// Two cells of one block flipped, every two cells of every block. If the block is then no pattern,
-/// read refuses by 12, since the number of bar cells stays even; the model knows the other answers.
+/// Two cells of one block flipped, every two of each block. If the block is then no pattern, read
+/// refuses by 12, since the number of bar cells stays even; the model knows the other answers.
 pub fn pairs(run: &Run) -> Result<Tally> {
     at_every_block(run, "read-pairs", |worker, list, block| {
         let good = worker.model.row_of_list(list);
@@ -207,7 +256,7 @@ pub fn pairs(run: &Run) -> Result<Tally> {
 const WAYS: [u32; 3] = [12, 13, 16];
 
 /// Two wrong blocks, and also a wrong stop: read answers the left block, whatever is wrong to the
-/// right of it. Every block of a row is the left one, beside the next block and beside the check.
+/// right of it. Each block is the left one, beside the next block and beside the check.
 pub fn beside(run: &Run) -> Result<Tally> {
     at_every_block(run, "read-beside", |worker, list, left| {
         let n = list.len();
@@ -280,12 +329,16 @@ pub fn random(run: &Run) -> Result<Tally> {
     })
 }
 
-/// Lengths of rows: every length up to 2,900, and some that would overflow 8 or 16 bits.
+/// Lengths of rows: every length close to that of the longest row and up to 2,900, that of some
+/// rows between them, and some that would overflow 8, 12 or 16 bits.
 fn row_lengths() -> Vec<usize> {
-    let round = [256, 257, 511, 512, 65_536, 65_537].map(model::cells);
-    (0..=2900)
-        .chain(round)
-        .chain([4096, 65_535, 65_536, 65_536 + 35, 70_000])
+    let rows = [511, 512, 1000, 4095, 4096, 65_536, 65_537].map(model::cells);
+    let beside = rows.into_iter().flat_map(|length| length - 1..=length + 1);
+    let longest = model::cells(LIMIT);
+    (longest - 13..=longest + 13)
+        .chain(0..=2900)
+        .chain(beside)
+        .chain([4096, 65_535, 65_536, 65_536 + 35, 65_536 + longest])
         .collect()
 }
 
@@ -296,13 +349,11 @@ pub fn lengths(run: &Run) -> Result<Tally> {
     run.blocks(lengths.len() as u64, |worker, block| {
         let mut random = Random::new(run.seed, "row-lengths", block);
         let length = lengths[block as usize];
-        let long = inputs::list(&mut random, LIMIT);
-        let good = worker.model.row_of_list(&long);
-        let end = worker.model.row(&[105]);
+        let n = (length / 11).clamp(1, LIMIT);
+        let good = worker.model.row_of_list(&inputs::list(&mut random, n));
         let mut stopped: Vec<u8> = good.iter().copied().cycle().take(length).collect();
-        let keep = length.saturating_sub(13);
-        stopped.truncate(keep);
-        stopped.extend(&end[11..]);
+        stopped.truncate(length.saturating_sub(13));
+        stopped.extend(STOP);
         for row in [
             vec![0; length],
             vec![1; length],
@@ -310,20 +361,29 @@ pub fn lengths(run: &Run) -> Result<Tally> {
             stopped,
         ] {
             worker.tally.inputs += 1;
-            worker.read(&row, inputs::room(&mut random, LIMIT), random.mark())?;
-            worker.pack(&row, inputs::room(&mut random, 356), random.mark())?;
+            worker.read(&row, inputs::room(&mut random, n), random.mark())?;
+            let need = model::record_bytes(n);
+            worker.pack(&row, inputs::room(&mut random, need), random.mark())?;
         }
         Ok(())
     })
 }
 
-/// Every n and every job with buffer lengths close to the one that is needed: a list of any
-/// numbers, the same without 97, so that encode takes its spelling, and a list in each set alone,
-/// so that spell and scan write the most (509 and 508 elements if n is 255) and the least.
+/// The numbers of symbols in `rooms`: each one up to 260, some up to the limit, and those close to
+/// it.
+fn room_lengths() -> Vec<usize> {
+    let between = [300, 511, 512, 513, 1000, 2047, 2048, 3914];
+    (1..=260).chain(between).chain(LIMIT - 2..=LIMIT).collect()
+}
+
+/// Every job with buffer lengths close to the one that is needed: a list of any numbers, the same
+/// without 97, so that encode takes its spelling, and a list in each set alone, so that spell and
+/// scan write the most (7,999 and 7,998 elements if n is 4,000) and the least.
 pub fn rooms(run: &Run) -> Result<Tally> {
-    run.blocks(LIMIT as u64, |worker, block| {
+    let lengths = room_lengths();
+    run.blocks(lengths.len() as u64, |worker, block| {
         let mut random = Random::new(run.seed, "rooms", block);
-        let n = block as usize + 1;
+        let n = lengths[block as usize];
         let list = inputs::list(&mut random, n);
         rooms_of(worker, &mut random, &list)?;
         rooms_of(worker, &mut random, &model::without_97(&list))?;

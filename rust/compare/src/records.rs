@@ -1,27 +1,36 @@
 //! Compares pack and unpack on rows and records, good and damaged.
 use crate::check::{Tally, Worker};
 use crate::inputs;
-use crate::model::{self, record_bytes, LIMIT};
+use crate::model::{self, bytes_of, cells, head_of, LIMIT};
 use crate::random::Random;
 use crate::run::{Result, Run};
 
-/// For every n: a readable row, random cells and bars only are packed and unpacked; then the record
-/// is cut, made longer and damaged.
+/// The most symbols of a row whose record is damaged at every place; both versions are among them.
+const EVERY: usize = 260;
+
+/// A readable row of n symbols, random cells, and bars only.
+pub fn rows(worker: &Worker, random: &mut Random, n: usize) -> [Vec<u8>; 3] {
+    let list = inputs::list(random, n);
+    [
+        worker.model.row_of_list(&list),
+        inputs::cells(random, n),
+        vec![1; cells(n)],
+    ]
+}
+
+/// For every n up to 260: rows are packed and unpacked; then the record is cut, made longer and
+/// damaged.
 pub fn all(run: &Run) -> Result<Tally> {
-    run.blocks(LIMIT as u64, |worker, block| {
+    run.blocks(EVERY as u64, |worker, block| {
         let mut random = Random::new(run.seed, "records-all", block);
         let n = block as usize + 1;
-        let readable = worker.model.row_of_list(&inputs::list(&mut random, n));
-        for row in [
-            readable,
-            inputs::cells(&mut random, n),
-            vec![1; model::cells(n)],
-        ] {
+        for row in rows(worker, &mut random, n) {
             let record = worker.model.pack(&row, usize::MAX).front;
             close(worker, &mut random, &row, &record)?;
-            cut(worker, &record)?;
-            spoiled(worker, &mut random, &record)?;
-            last_bytes(worker, &record)?;
+            let places: Vec<usize> = (0..record.len()).collect();
+            cut(worker, &record, row.len(), &places)?;
+            spoiled(worker, &mut random, &record, row.len(), &places)?;
+            last_bytes(worker, &record, row.len())?;
         }
         Ok(())
     })
@@ -29,7 +38,7 @@ pub fn all(run: &Run) -> Result<Tally> {
 
 /// Compares pack and unpack with buffer lengths close to the one that is needed; and tests that
 /// each undoes the other.
-fn close(worker: &mut Worker, random: &mut Random, row: &[u8], record: &[u8]) -> Result<()> {
+pub fn close(worker: &mut Worker, random: &mut Random, row: &[u8], record: &[u8]) -> Result<()> {
     worker.tally.inputs += 2;
     for room in inputs::near(record.len()) {
         worker.pack(row, room, random.mark())?;
@@ -41,28 +50,34 @@ fn close(worker: &mut Worker, random: &mut Random, row: &[u8], record: &[u8]) ->
     worker.record_law(record)
 }
 
-/// Compares unpack on the record cut at every length, and with more bytes after it.
-fn cut(worker: &mut Worker, record: &[u8]) -> Result<()> {
-    for length in 0..record.len() {
+/// Compares unpack on the record cut at these lengths, and with more bytes after it.
+pub fn cut(worker: &mut Worker, record: &[u8], room: usize, lengths: &[usize]) -> Result<()> {
+    for &length in lengths {
         worker.tally.inputs += 1;
-        worker.unpack(&record[..length], 2829, 0xA7)?;
+        worker.unpack(&record[..length], room, 0xA7)?;
     }
     for more in [1, 2, 255, 256, 65_536] {
         worker.tally.inputs += 1;
         let longer = [record, &vec![0; more]].concat();
-        worker.unpack(&longer, 2829, 0xA7)?;
+        worker.unpack(&longer, room, 0xA7)?;
     }
     Ok(())
 }
 
-/// Compares unpack on the record with each byte changed.
-fn spoiled(worker: &mut Worker, random: &mut Random, record: &[u8]) -> Result<()> {
+/// Compares unpack on the record with each of these bytes changed.
+pub fn spoiled(
+    worker: &mut Worker,
+    random: &mut Random,
+    record: &[u8],
+    room: usize,
+    places: &[usize],
+) -> Result<()> {
     let mut spoiled = record.to_vec();
-    for place in 0..record.len() {
+    for &place in places {
         for byte in [record[place] ^ (1 << random.below(8)), random.byte()] {
             spoiled[place] = byte;
             worker.tally.inputs += 1;
-            worker.unpack(&spoiled, inputs::room(random, 2829), random.mark())?;
+            worker.unpack(&spoiled, inputs::room(random, room), random.mark())?;
         }
         spoiled[place] = record[place];
     }
@@ -71,54 +86,73 @@ fn spoiled(worker: &mut Worker, random: &mut Random, record: &[u8]) -> Result<()
 
 /// Compares unpack on the record with every value of the last byte, so with every value of the
 /// spare bits.
-fn last_bytes(worker: &mut Worker, record: &[u8]) -> Result<()> {
+pub fn last_bytes(worker: &mut Worker, record: &[u8], room: usize) -> Result<()> {
     let mut other = record.to_vec();
     let last = record.len() - 1;
     for byte in 0..=255 {
         other[last] = byte;
         worker.tally.inputs += 1;
-        worker.unpack(&other, 2829, 0xA7)?;
+        worker.unpack(&other, room, 0xA7)?;
     }
     Ok(())
 }
 
-/// Every version byte with every count byte: in a record of the right length for the count, one
-/// byte shorter, one byte longer, and of these two bytes alone.
+/// Compares unpack on zeros of this length after a head, which is cut off where there is no room
+/// for it.
+pub fn zeros(worker: &mut Worker, head: &[u8], length: usize, room: usize) -> Result<()> {
+    let mut record = head.to_vec();
+    record.resize(length, 0);
+    worker.tally.inputs += 1;
+    worker.unpack(&record, room, 0xA7).map(drop)
+}
+
+/// Every version byte with every count up to 255, in two bytes for version 2: in a record of the
+/// right length for the count, one byte shorter, one byte longer, and of two bytes alone.
 pub fn heads(run: &Run) -> Result<Tally> {
     run.blocks(256, |worker, version| {
-        for count in 0..=255u8 {
-            let right = record_bytes(usize::from(count));
-            for length in [right, right - 1, right + 1, 2] {
-                let mut record = vec![0; length];
-                (record[0], record[1]) = (version as u8, count);
-                worker.tally.inputs += 1;
-                worker.unpack(&record, 2829, 0xA7)?;
-            }
+        for count in 0..=255 {
+            let head = head_of(version as u8, count);
+            let right = bytes_of(version as u8, count);
+            [right, right - 1, right + 1, 2]
+                .into_iter()
+                .try_for_each(|length| zeros(worker, &head, length, cells(count)))?;
         }
         Ok(())
     })
 }
 
-/// Records of every length up to 400, with several versions and counts.
+/// The lengths of records: each one up to 400, and close to the longest.
+fn record_lengths() -> Vec<usize> {
+    let longest = model::record_bytes(LIMIT);
+    (0..=400).chain(longest - 5..=longest + 5).collect()
+}
+
+/// Records of every length, with several versions and counts: those of the longest records of both
+/// versions, the first of version 2, and counts that no record may have.
 pub fn lengths(run: &Run) -> Result<Tally> {
-    run.blocks(401, |worker, length| {
-        let mut random = Random::new(run.seed, "record-lengths", length);
+    let lengths = record_lengths();
+    run.blocks(lengths.len() as u64, |worker, block| {
+        let mut random = Random::new(run.seed, "record-lengths", block);
+        let length = lengths[block as usize];
         for head in [
-            [1, 255],
-            [1, 0],
-            [1, 1],
-            [0, 1],
-            [1, random.byte()],
-            [2, 0],
-            [255, 255],
+            head_of(1, 255),
+            head_of(1, 0),
+            head_of(1, 1),
+            head_of(1, random.below(256)),
+            head_of(2, 255),
+            head_of(2, 256),
+            head_of(2, LIMIT),
+            head_of(2, LIMIT + 1),
+            head_of(2, random.below(65_536)),
+            vec![0, 1],
+            vec![255, 255],
         ] {
-            let mut record: Vec<u8> = head
-                .into_iter()
-                .chain((2..length.max(2)).map(|_| random.byte()))
-                .collect();
-            record.truncate(length as usize);
+            let mut record = head;
+            record.extend((0..length).map(|_| random.byte()));
+            record.truncate(length);
             worker.tally.inputs += 1;
-            worker.unpack(&record, inputs::room(&mut random, 2829), random.mark())?;
+            let room = inputs::room(&mut random, 8 * length);
+            worker.unpack(&record, room, random.mark())?;
             worker.record_law(&record)?;
         }
         Ok(())
@@ -151,7 +185,7 @@ fn damage(random: &mut Random, record: &mut Vec<u8>) {
     match random.below(6) {
         0 => record[place] = random.byte(),
         1 | 2 => record[last] ^= 1 << random.below(4),
-        3 => record[random.below(2).min(last)] = random.pick(&[0, 1, 2, 255]),
+        3 => record[random.below(3).min(last)] = random.pick(&[0, 1, 2, 3, 15, 160, 255]),
         4 => record.truncate(place),
         _ => record.push(random.pick(&[0, 1, 128])),
     }

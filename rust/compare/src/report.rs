@@ -39,16 +39,19 @@ pub fn listed_line(tally: &Tally) -> String {
     )
 }
 
-/// How many texts the type with the crate's signatures encoded, and how many rows the crate did not
-/// draw.
+/// How many texts the type with the crate's signatures encoded, how many long rows were the
+/// crate's, and how many rows the crate did not draw.
 pub fn others_line(tally: &Tally) -> String {
+    let long = format!(
+        "rows of more than 255 symbols that are the crate's: {}",
+        tally.long
+    );
     let undrawn = format!(
-        "accepted texts of more than {MOST_DRAWN} code points, their symbols counted and not drawn \
-         by the crate: {}",
+        "texts of more than {MOST_DRAWN} symbols, counted and not drawn by the crate: {}",
         tally.undrawn
     );
     format!(
-        "texts by the type with the crate's signatures: {}; {undrawn}",
+        "texts by the type with the crate's signatures: {}; {long}; {undrawn}",
         tally.drop_in
     )
 }

@@ -1,14 +1,18 @@
 //! Makes the input of a difference as small as possible.
 use crate::check::{Fault, Subject, Worker};
-use crate::model::record_bytes;
+use crate::model::{bytes_of, cells, head_of, LIMIT};
 
 /// The most calls that shrinking makes; a call on a long input counts as several.
 const TRIES: usize = 40_000;
 /// The number of elements for which a call counts once more.
 const ELEMENTS: usize = 256;
+/// The most elements of an input that are removed and lowered one by one.
+const SINGLY: usize = 2000;
 
-/// A buffer length that is enough for every job.
-const AMPLE: usize = 2900;
+/// A buffer length that is enough for every job on so many elements, or on fewer.
+fn ample(elements: usize) -> usize {
+    cells(elements.min(LIMIT))
+}
 
 /// The smallest difference so far, and the calls that may still be made.
 struct Shrinker<'a, 'b> {
@@ -17,7 +21,8 @@ struct Shrinker<'a, 'b> {
     tries: usize,
 }
 
-/// Removes elements, lowers elements and shortens the buffer, as long as a difference remains.
+/// Removes elements, lowers elements and shortens the buffer, as long as a difference remains. The
+/// last shortening takes few calls, and is not counted.
 pub fn shrink(worker: &mut Worker, fault: Fault) -> Fault {
     let mut shrinker = Shrinker {
         worker,
@@ -25,14 +30,19 @@ pub fn shrink(worker: &mut Worker, fault: Fault) -> Fault {
         tries: TRIES,
     };
     shrinker.widen();
+    shrinker.trim();
     loop {
-        let removed = shrinker.recount() || shrinker.remove();
-        let lowered = shrinker.lower();
+        let singly = shrinker.best.input.len() <= SINGLY;
+        let removed = shrinker.recount() || (singly && shrinker.remove());
+        let lowered = singly && shrinker.lower();
         let shortened = shrinker.shorten();
         if !(removed || lowered || shortened) {
-            return shrinker.best;
+            break;
         }
     }
+    shrinker.tries = usize::MAX;
+    while shrinker.shorten() {}
+    shrinker.best
 }
 
 /// The sizes of the parts to remove: the length, its halves, and blocks of eleven cells; the
@@ -58,6 +68,15 @@ fn lower_values(value: u32) -> impl Iterator<Item = u32> {
         .filter(move |&other| other < value)
 }
 
+/// Smaller counts to try for a record: all of them in one byte. In two bytes a few from 1 on and
+/// from 256 on; eight in a row have every number of spare bits.
+fn smaller_counts(version: u8, first: u32) -> Vec<usize> {
+    match version {
+        2 => (1..=8).chain(256..=263).collect(),
+        _ => (1..first.min(255) as usize).collect(),
+    }
+}
+
 impl Shrinker<'_, '_> {
     /// Compares once; a difference becomes the smallest so far.
     fn differs(&mut self, input: &[u32], room: usize, mark: u8) -> bool {
@@ -78,28 +97,67 @@ impl Shrinker<'_, '_> {
     /// prevent a smaller input.
     fn widen(&mut self) {
         let (input, mark) = (self.best.input.clone(), self.best.mark);
-        if self.best.room < AMPLE {
-            self.differs(&input, AMPLE, mark);
+        let room = ample(input.len());
+        if self.best.room < room {
+            self.differs(&input, room, mark);
         }
+    }
+
+    /// Makes a long input shorter at its end and after its first element or block, and what is left
+    /// as much alike as it can be. These calls are few, and are not counted.
+    fn trim(&mut self) {
+        if self.best.input.len() <= ELEMENTS {
+            return;
+        }
+        let tries = std::mem::replace(&mut self.tries, usize::MAX);
+        for size in sizes(self.best.input.len()) {
+            while self.cut(size) {}
+        }
+        for parts in [1, 2, 4, 8, 16] {
+            let length = self.best.input.len();
+            for from in (1..length).step_by(length.div_ceil(parts)) {
+                self.level(from, (from + length.div_ceil(parts)).min(length));
+            }
+        }
+        self.tries = tries;
+    }
+
+    /// Removes so many elements at the end, after the first one, or after the first eleven.
+    fn cut(&mut self, size: usize) -> bool {
+        let last = self.best.input.len().checked_sub(size);
+        [last, Some(1), Some(11)]
+            .into_iter()
+            .flatten()
+            .any(|from| from + size <= self.best.input.len() && self.remove_part(from, from + size))
+    }
+
+    /// Gives all elements of a part one value.
+    fn level(&mut self, from: usize, to: usize) {
+        let (input, room, mark) = (self.best.input.clone(), self.best.room, self.best.mark);
+        [0, 0x20, 0x30].into_iter().any(|value| {
+            let mut other = input.clone();
+            other[from..to].fill(value);
+            other == input || self.differs(&other, room, mark)
+        });
     }
 
     /// Tries a record with a smaller count, and only as many of its last bytes as that count needs.
     fn recount(&mut self) -> bool {
         let (input, room, mark) = (self.best.input.clone(), self.best.room, self.best.mark);
-        let record =
-            matches!(self.best.subject, Subject::Unpack | Subject::RecordLaw) && input.len() > 2;
-        let counts = if record { 1..input[1].min(255) } else { 1..1 };
-        counts
-            .into_iter()
-            .filter(|&n| record_bytes(n as usize) < input.len())
-            .any(|n| {
-                let body = record_bytes(n as usize) - 2;
-                self.differs(
-                    &[&[input[0], n], &input[input.len() - body..]].concat(),
-                    room,
-                    mark,
-                )
-            })
+        let record = matches!(self.best.subject, Subject::Unpack | Subject::RecordLaw);
+        if !record || input.len() < 3 {
+            return false;
+        }
+        let version = input[0] as u8;
+        smaller_counts(version, input[1]).into_iter().any(|n| {
+            let (head, bytes) = (head_of(version, n), bytes_of(version, n));
+            let Some(front) = input.len().checked_sub(bytes).filter(|&less| less > 0) else {
+                return false;
+            };
+            let head = head.iter().map(|&byte| u32::from(byte));
+            let rest = input[front + head.len()..].iter().copied();
+            self.differs(&head.chain(rest).collect::<Vec<u32>>(), room, mark)
+        })
     }
 
     /// Removes parts of the input, from all of it down to single elements.

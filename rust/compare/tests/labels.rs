@@ -1,16 +1,24 @@
-//! The labels of document 01 in the crate, the model and the library; the list of differences; the
-//! word of a case.
-use compare::ask::{ask, patterns, place_by_halving, place_from_left, Crate, Tries};
+//! The labels and records of documents 01 and 02 in the crate, the model and the library; the list
+//! of differences; the word of a case.
+use compare::ask::{ask, patterns, place_by_halving, place_from_left, Crate, Tries, MOST_DRAWN};
 use compare::check::{Fault, Subject, Worker};
 use compare::face::{Face, True};
 use compare::listed::LIST;
 use compare::lists::{SHIFTED, WITH_97};
-use compare::model::{check, moved, retired, unshifted, Model, STOP};
+use compare::model::{cells, check, moved, retired, unshifted, Model, LIMIT, STOP};
 use compare::report::{case_of, case_word};
+
+/// The cells of the longest row, which are room enough for every job.
+const MOST_CELLS: usize = 44_024;
 
 /// The code points of a text.
 fn points(text: &str) -> Vec<u32> {
     text.chars().map(u32::from).collect()
+}
+
+/// What the library answers to a text with room enough.
+fn encoded(points: &[u32]) -> (u32, usize) {
+    True.encode(points, &mut vec![0; MOST_CELLS])
 }
 
 /// The symbols and the checks in document 01 are those of the crate's row and of the model.
@@ -38,7 +46,7 @@ fn labels_that_are_accepted() {
         let mut worker = Worker::new(&True, &model);
         assert_eq!(
             worker
-                .encode(&points(text), 2829, 0xA7)
+                .encode(&points(text), MOST_CELLS, 0xA7)
                 .expect("no difference"),
             0,
             "{text}"
@@ -74,6 +82,131 @@ fn places_of_refusal_3() {
     }
 }
 
+/// The labels of document 01 on each side of its limit, as request 4 has them, and others on each
+/// side of 4,000 symbols: the library's answer, held to the crate with less room, enough and more.
+#[test]
+fn labels_on_each_side_of_the_limit() {
+    let model = Model::new(patterns());
+    let mut worker = Worker::new(&True, &model);
+    for (text, answer) in [
+        (format!("Ɓ{}", "A".repeat(254)), (0, 255)),
+        (format!("Ɓ{}", "A".repeat(255)), (0, 256)),
+        (format!("Ɓ{}", "A".repeat(3999)), (0, 4000)),
+        (format!("Ɓ{}", "A".repeat(4000)), (4, 4001)),
+        (format!("Ɓ{}", "A".repeat(4300)), (4, 4301)),
+        (format!("Ɓ{}€", "A".repeat(300)), (3, 301)),
+        (format!("Ɓ{}€", "A".repeat(4300)), (3, 4301)),
+        (format!("Ć{}", "12".repeat(254)), (0, 255)),
+        (format!("Ć{}", "12".repeat(255)), (0, 256)),
+        (format!("Ć{}", "12".repeat(3999)), (0, 4000)),
+        (format!("Ć{}", "12".repeat(4000)), (4, 4001)),
+        (format!("Ć{}1", "12".repeat(4000)), (3, 8002)),
+    ] {
+        let points = points(&text);
+        assert_eq!(encoded(&points), answer, "{} code points", points.len());
+        let need = cells(answer.1.min(LIMIT));
+        for room in [0, need - 1, need, need + 1] {
+            worker.encode(&points, room, 0xA7).expect("no difference");
+        }
+        worker.text_law(&points).expect("no difference");
+        worker
+            .drop_in(&points, &ask(&points))
+            .expect("no difference");
+    }
+    assert_eq!((cells(LIMIT), LIMIT), (MOST_CELLS, 4000));
+}
+
+/// What unpack answers to records of document 01 and of request 4, as the documents give it.
+#[test]
+fn records_that_are_refused() {
+    let model = Model::new(patterns());
+    let mut worker = Worker::new(&True, &model);
+    let records: [(&[u8], (u32, usize)); 17] = [
+        (&[], (20, 0)),
+        (&[1], (20, 1)),
+        (&[2], (20, 1)),
+        (&[0, 1], (21, 0)),
+        (&[3, 9], (21, 3)),
+        (&[255, 0, 0], (21, 255)),
+        (&[1, 0], (22, 0)),
+        (&[1, 1], (22, 7)),
+        (&[1, 255], (22, 356)),
+        (&[2, 1], (22, 0)),
+        (&[2, 0, 0], (22, 0)),
+        (&[2, 0, 255], (22, 0)),
+        (&[2, 1, 0], (22, 358)),
+        (&[2, 15, 160], (22, 5506)),
+        (&[2, 15, 161], (22, 0)),
+        (&[2, 255, 255], (22, 0)),
+        (&[1, 1, 0, 0, 0, 0, 1], (23, 6)),
+    ];
+    for (record, answer) in records {
+        let said = model.unpack(record, MOST_CELLS);
+        assert_eq!((said.number, said.second), answer, "{record:?}");
+        assert_eq!(True.unpack(record, &mut [0; 35]), answer, "{record:?}");
+        worker.unpack(record, 35, 0xA7).expect("no difference");
+    }
+}
+
+/// The heads and lengths of records that the documents give, in the model and in the library.
+#[test]
+fn records_of_both_versions() {
+    let model = Model::new(patterns());
+    let mut worker = Worker::new(&True, &model);
+    let records: [(usize, &[u8], usize); 5] = [
+        (1, &[1, 1], 7),
+        (255, &[1, 255], 356),
+        (256, &[2, 1, 0], 358),
+        (300, &[2, 1, 44], 3 + 416),
+        (4000, &[2, 15, 160], 5506),
+    ];
+    for (n, head, bytes) in records {
+        let row = vec![1; cells(n)];
+        let mut record = vec![0; 5506];
+        assert_eq!(True.pack(&row, &mut record), (0, bytes), "{n}");
+        assert_eq!(record[..head.len()], *head);
+        assert_eq!(record[..bytes], model.pack(&row, bytes).front);
+        worker.row_law(&row).expect("no difference");
+        worker.record_law(&record[..bytes]).expect("no difference");
+    }
+}
+
+/// The cell at a place of a row of n symbols that stands for any row of that length.
+fn cell(n: usize, place: usize) -> u8 {
+    ((place * place + 7 * n * place) / 13 + place / 3) as u8 % 2
+}
+
+/// A digest of bytes (FNV-1a).
+fn digest(bytes: impl Iterator<Item = u8>) -> u64 {
+    bytes.fold(0xCBF2_9CE4_8422_2325, |digest, byte| {
+        (digest ^ u64::from(byte)).wrapping_mul(0x100_0000_01B3)
+    })
+}
+
+/// The digest of the 255 records that pack of version 1.3.1, before request 4, wrote for such rows.
+const BEFORE: u64 = 0xC4FB_5C4B_376F_23B4;
+
+/// Up to 255 symbols the library writes the records of before request 4, byte for byte, and so does
+/// the model; and the library takes them.
+#[test]
+fn records_as_before() {
+    let model = Model::new(patterns());
+    let (mut library, mut plain) = (Vec::new(), Vec::new());
+    for n in 1..=255 {
+        let row: Vec<u8> = (0..cells(n)).map(|place| cell(n, place)).collect();
+        let (mut record, mut back) = ([0; 356], vec![0; row.len()]);
+        let (number, bytes) = True.pack(&row, &mut record);
+        assert_eq!(number, 0);
+        assert_eq!(True.unpack(&record[..bytes], &mut back), (0, row.len()));
+        assert_eq!(back, row);
+        library.extend_from_slice(&record[..bytes]);
+        plain.extend(model.pack(&row, 356).front);
+    }
+    assert_eq!(library, plain);
+    assert_eq!(library.len(), 46_267);
+    assert_eq!(digest(library.into_iter()), BEFORE);
+}
+
 /// The crate's patterns follow the rule in document 01.
 #[test]
 fn patterns_follow_their_rule() {
@@ -105,7 +238,7 @@ fn blocks_worn_and_unknown() {
     for (places, expected) in cases {
         let mut row = row.clone();
         places.iter().for_each(|&place| row[place] ^= 1);
-        let said = model.read(&row, 255);
+        let said = model.read(&row, LIMIT);
         assert_eq!((said.number, said.second), expected, "{places:?}");
     }
     for (cell, number) in [(0, 12), (1, 16)] {
@@ -120,9 +253,9 @@ fn labels_with_a_shift() {
     let model = Model::new(patterns());
     let mut worker = Worker::new(&True, &model);
     for (list, bytes) in SHIFTED {
-        assert_eq!(model.scan(list, 508).front, bytes, "{list:?}");
+        assert_eq!(model.scan(list, 7998).front, bytes, "{list:?}");
         assert_eq!(unshifted(list).0.len(), bytes.len(), "{list:?}");
-        worker.scan(list, 508, 0xA7).expect("no difference");
+        worker.scan(list, 7998, 0xA7).expect("no difference");
         worker.shift_law(list).expect("no difference");
     }
     for (list, bytes, any) in [
@@ -165,7 +298,7 @@ fn labels_with_fnc2() {
             _ => Crate::Row(model.row_of_list(list)),
         };
         assert_eq!(ask(&points), said, "{text}");
-        for room in [0, 34, 35, 46, 2829] {
+        for room in [0, 34, 35, 46, MOST_CELLS] {
             assert_eq!(True.encode(&points, &mut vec![0; room]), answer, "{text}");
             let number = worker.encode(&points, room, 0xA7).expect("no difference");
             assert_eq!(number, answer.0, "{text}");
@@ -176,25 +309,27 @@ fn labels_with_fnc2() {
     assert_eq!(check(&[104, 97]), 98);
 }
 
-/// ź among more than 255 symbols is 19, and a code point without a number after it is 3. 97 as a
+/// ź among more than 4,000 symbols is 19, and a code point without a number after it is 3. 97 as a
 /// pair and as a check is accepted.
 #[test]
 fn fnc2_and_the_limit() {
     let model = Model::new(patterns());
     let mut worker = Worker::new(&True, &model);
     for (text, answer) in [
-        (format!("Ɓ{}ź", "A".repeat(253)), (19, 254)),
         (format!("Ɓ{}ź", "A".repeat(254)), (19, 255)),
-        (format!("Ć{}Ɓź", "97".repeat(300)), (19, 602)),
-        (format!("Ɓź{}€", "A".repeat(300)), (3, 302)),
-        (format!("Ɓ{}", "A".repeat(255)), (4, 256)),
+        (format!("Ɓ{}ź", "A".repeat(255)), (19, 256)),
+        (format!("Ɓ{}ź", "A".repeat(3998)), (19, 3999)),
+        (format!("Ɓ{}ź", "A".repeat(3999)), (19, 4000)),
+        (format!("Ć{}Ɓź", "97".repeat(4300)), (19, 8602)),
+        (format!("Ɓź{}€", "A".repeat(4300)), (3, 4302)),
         ("ƁŻ".into(), (0, 2)),
         ("Ć97".into(), (0, 2)),
         (format!("Ć{}", "97".repeat(254)), (0, 255)),
+        (format!("Ć{}", "97".repeat(3999)), (0, 4000)),
     ] {
         let points = points(&text);
-        assert_eq!(True.encode(&points, &mut [0; 2829]), answer, "{text}");
-        for room in [0, 46, 2829] {
+        assert_eq!(encoded(&points), answer, "{} code points", points.len());
+        for room in [0, 46, MOST_CELLS] {
             worker.encode(&points, room, 0xA7).expect("no difference");
         }
         worker
@@ -213,13 +348,13 @@ fn lists_with_97() {
     for (list, text, bytes) in WITH_97 {
         let points = points(text);
         assert_eq!(model.spell(list, 600).front, points, "{list:?}");
-        assert_eq!(model.scan(list, 508).front, bytes, "{list:?}");
+        assert_eq!(model.scan(list, 7998).front, bytes, "{list:?}");
         assert_eq!(ask(&points), Crate::Row(model.row_of_list(list)), "{text}");
         let answer = match retired(&points) {
             Some(place) => (19, place),
             None => (0, list.len()),
         };
-        assert_eq!(True.encode(&points, &mut [0; 2829]), answer, "{text}");
+        assert_eq!(encoded(&points), answer, "{text}");
         worker.list_law(list).expect("no difference");
     }
     assert_eq!(
@@ -266,12 +401,16 @@ fn the_list_is_the_one_in_the_docs() {
 }
 
 /// The symbols of a text that is too long for the crate to draw are counted as those of a shorter
-/// text.
+/// text, whose row is drawn.
 #[test]
 fn symbols_of_long_texts() {
-    for pairs in [2999, 3000, 5000] {
+    for pairs in [2998, 2999, 3998, 5998, 5999, 9000] {
         let text = points(&format!("Ć{}Ɓ", "12".repeat(pairs)));
-        assert!(matches!(ask(&text), Crate::Row(row) if row.len() == 11 * (pairs + 3) + 13));
+        let Crate::Row(row) = ask(&text) else {
+            panic!("the crate takes {pairs} pairs");
+        };
+        assert_eq!(row.len(), 11 * (pairs + 3) + 13);
+        assert_eq!(row.ends_with(&STOP), pairs + 2 <= MOST_DRAWN);
     }
 }
 

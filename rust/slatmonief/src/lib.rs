@@ -7,10 +7,10 @@
 //!
 //! - A *cell* is a byte: 1 for a bar, 0 for a space.
 //! - A *symbol list* is a START number (103, 104 or 105) and then data numbers from 0 to 102,
-//!   without the check. Its length, n, is from 1 to 255.
+//!   without the check. Its length, n, is from 1 to 4,000 (before version 1.4.0: to 255).
 //! - A *row* is the cells of a symbol list, of its check and of the stop: 11(n+1)+13 cells.
-//! - A *row record* is a row in few bytes: a version byte, a byte with n, and then eight cells in
-//!   each byte.
+//! - A *row record* is a row in few bytes: a version byte, n, and then eight cells in each byte.
+//!   [`pack`] describes its two versions.
 //! - Places in texts, lists, rows and records count from 0.
 //!
 //! # Three ways to call it
@@ -19,9 +19,12 @@
 //!   buffer that you lend, and allocate nothing. An accepted call fills the front of the buffer and
 //!   leaves the rest of it unchanged. A refused call leaves all of it unchanged and returns a
 //!   [`Refusal`]. With a buffer of the size [`MOST_CELLS`], [`MOST_SYMBOLS`], [`MOST_CODE_POINTS`],
-//!   [`MOST_SCANNED`] or [`MOST_RECORD`] there is always enough room.
+//!   [`MOST_SCANNED`] or [`MOST_RECORD`] there is always enough room. Such buffers are for static
+//!   or heap memory rather than a small stack. A shorter buffer is refused only if the answer does
+//!   not fit: the second number of refusal 5 is the length needed, 11(n+1)+13 cells for a row.
 //! - [`encode_str`], [`draw_symbols`], [`read_row`], [`spell_symbols`], [`scan_symbols`],
-//!   [`pack_row`] and [`unpack_record`] do the same and return a new `Vec` or `String`.
+//!   [`pack_row`] and [`unpack_record`] do the same and return a new `Vec` or `String`. What they
+//!   reserve for it goes by the length of the input, and never exceeds those sizes.
 //! - [`sym::code128::Code128`] has the signatures of the crate barcoders. A program that uses that
 //!   crate changes one `use` line.
 //!
@@ -51,15 +54,15 @@ pub mod sym;
 pub use refusal::Refusal;
 
 /// The most cells that a row has.
-pub const MOST_CELLS: usize = 2829;
+pub const MOST_CELLS: usize = 44_024;
 /// The most symbols that a list has.
-pub const MOST_SYMBOLS: usize = 255;
+pub const MOST_SYMBOLS: usize = 4_000;
 /// The most code points that [`spell`] writes.
-pub const MOST_CODE_POINTS: usize = 509;
+pub const MOST_CODE_POINTS: usize = 7_999;
 /// The most bytes that [`scan`] writes.
-pub const MOST_SCANNED: usize = 508;
+pub const MOST_SCANNED: usize = 7_998;
 /// The most bytes that a row record has.
-pub const MOST_RECORD: usize = 356;
+pub const MOST_RECORD: usize = 5_506;
 
 /// What a call of the library answers: 0 and a number, or the number of a refusal and its second
 /// number.
@@ -165,7 +168,7 @@ job! {
     /// | 2 | the text has fewer than two UTF-8 bytes | 0 |
     /// | 3 | parsing stops | the place; the length of the text if a digit is left over |
     /// | 19 | the text has a ź (FNC2), which is retired | the place of the first |
-    /// | 4 | more than 255 symbols are needed | the symbols needed |
+    /// | 4 | more than 4,000 symbols are needed | the symbols needed |
     /// | 5 | `row` is too short | the cells needed |
     ///
     /// Parsing stops at place 0 if the text does not begin with À, Ɓ or Ć. Later it stops at a code
@@ -193,7 +196,7 @@ job! {
     ///
     /// | Number | Reason | Second number |
     /// |---|---|---|
-    /// | 10 | the list is empty or has more than 255 symbols | its length |
+    /// | 10 | the list is empty or has more than 4,000 symbols | its length |
     /// | 13 | place 0 is not a START, or a later number is above 102 | the first such place |
     /// | 5 | `row` is too short | the cells needed |
     draw, slatmonief_draw, Draw, symbols: u8, row: u8
@@ -229,7 +232,7 @@ job! {
     ///
     /// ```
     /// let mut row = slatmonief::encode_str("Ć12").unwrap();
-    /// let mut symbols = [0; slatmonief::MOST_SYMBOLS];
+    /// let mut symbols = [0; 2];
     /// let n = slatmonief::read(&row, &mut symbols).unwrap();
     /// assert_eq!(symbols[..n], [105, 12]);
     ///
@@ -253,7 +256,7 @@ job! {
     ///
     /// | Number | Reason | Second number |
     /// |---|---|---|
-    /// | 10 | the list is empty or has more than 255 symbols | its length |
+    /// | 10 | the list is empty or has more than 4,000 symbols | its length |
     /// | 13 | place 0 is not a START, or a later number is above 102 | the first such place |
     /// | 5 | `text` is too short | the code points needed |
     ///
@@ -283,7 +286,7 @@ job! {
     ///
     /// | Number | Reason | Second number |
     /// |---|---|---|
-    /// | 10 | the list is empty or has more than 255 symbols | its length |
+    /// | 10 | the list is empty or has more than 4,000 symbols | its length |
     /// | 13 | place 0 is not a START, or a later number is above 102 | the first such place |
     /// | 5 | `bytes` is too short | the bytes needed |
     ///
@@ -293,7 +296,7 @@ job! {
     /// // Set A, `A`, Shift, 65, which is `a` in set B, and `B`.
     /// let symbols = slatmonief::read_row(&slatmonief::encode_str("ÀAŽ\u{1}B")?)?;
     /// assert_eq!(symbols, [103, 33, 98, 65, 34]);
-    /// let mut bytes = [0; slatmonief::MOST_SCANNED];
+    /// let mut bytes = [0; 4];
     /// let n = slatmonief::scan(&symbols, &mut bytes)?;
     /// assert_eq!(bytes[..n], *b"AaB");
     /// # Ok::<(), slatmonief::Refusal>(())
@@ -303,7 +306,19 @@ job! {
 job! {
     /// Packs the cells of a row into a row record; returns the number of bytes written.
     ///
-    /// The row may have any cells: [`read`] need not accept it.
+    /// The row may have any cells: [`read`] need not accept it. The record begins with its version
+    /// and n:
+    ///
+    /// - version 1, for n up to 255: byte 0 is 1, and byte 1 is n;
+    /// - version 2, for n from 256 on: byte 0 is 2, byte 1 is n / 256, and byte 2 is n % 256.
+    ///
+    /// Then come the cells, eight to a byte, the first in the top bit. Low bits of the last byte
+    /// that no cell takes are spare, and 0. That makes 7 bytes at n = 1, 356 at 255, 358 at 256 and
+    /// 5,506 at 4,000, and one record for each row.
+    ///
+    /// Up to 255 symbols the record is, byte for byte, that of this crate before its version 1.4.0.
+    /// Longer rows were refused by 10 there, and its [`unpack`] refuses a record of version 2 by
+    /// 21, with 2.
     ///
     /// # Refusals, in this order
     ///
@@ -312,42 +327,68 @@ job! {
     /// | 10 | no row has this length | the length |
     /// | 11 | a cell is neither 0 nor 1 | the first such place |
     /// | 5 | `record` is too short | the bytes needed |
+    ///
+    /// # Example
+    ///
+    /// ```
+    /// // A customs label of 300 symbols: version 2, and 300 is 1 * 256 + 44.
+    /// let row = slatmonief::encode_str(&format!("Ɓ{}", "A".repeat(299)))?;
+    /// let record = slatmonief::pack_row(&row)?;
+    /// assert_eq!(record[..3], [2, 1, 44]);
+    /// assert_eq!(record.len(), 3 + row.len() / 8 + 1);
+    /// assert_eq!(slatmonief::unpack_record(&record)?, row);
+    /// # Ok::<(), slatmonief::Refusal>(())
+    /// ```
     pack, slatmonief_pack, Pack, row: u8, record: u8
 }
 job! {
     /// Unpacks a row record to the cells of its row; returns the number of cells written.
+    ///
+    /// The record is of version 1 or 2, as [`pack`] writes it. Its count, the n that it declares,
+    /// is believed only once it agrees with the length. Before version 1.4.0 of this crate 2 was
+    /// refused by 21.
     ///
     /// # Refusals, in this order
     ///
     /// | Number | Reason | Second number |
     /// |---|---|---|
     /// | 20 | the record has fewer than two bytes | its length |
-    /// | 21 | the version byte is not 1 | that byte |
-    /// | 22 | the record declares no symbols | 0 |
-    /// | 22 | the length is not what the declared number of symbols needs | the bytes needed |
+    /// | 21 | the version byte is neither 1 nor 2 | that byte |
+    /// | 22 | in version 1, the count is 0 | 0 |
+    /// | 22 | in version 2, the count is up to 255, above 4,000, or not whole (2 bytes) | 0 |
+    /// | 22 | the length is not what the version and the count need | the bytes needed |
     /// | 23 | a spare bit of the last byte is set | the place of the last byte |
     /// | 5 | `row` is too short | the cells needed |
     ///
     /// # Example
     ///
     /// ```
-    /// let mut row = [0; slatmonief::MOST_CELLS];
-    /// let refusal = slatmonief::unpack(&[1, 255], &mut row).unwrap_err();
-    /// assert_eq!((refusal.number(), refusal.second()), (22, 356));
-    /// let words = "refusal 22: the record's length is not what its count needs, 356 bytes";
+    /// // Two captures that merely declare a size: 4,000 symbols, and 65,535.
+    /// let mut row = [0; 35];
+    /// let refusal = slatmonief::unpack(&[2, 15, 160], &mut row).unwrap_err();
+    /// assert_eq!((refusal.number(), refusal.second()), (22, 5506));
+    /// let words = "refusal 22: the record's length is not what its count needs, 5506 bytes";
     /// assert_eq!(refusal.to_string(), words);
+    /// let refusal = slatmonief::unpack(&[2, 255, 255], &mut row).unwrap_err();
+    /// assert_eq!((refusal.number(), refusal.second()), (22, 0));
     /// ```
     unpack, slatmonief_unpack, Unpack, record: u8, row: u8
 }
 
-/// What a job writes to the front of a buffer of N elements, as a new vector.
-fn lent<T: Copy + Default, const N: usize>(
+/// What a job writes to the front of a new buffer of this length, as a vector. Each caller takes
+/// the length from that of its input, so that a short label does not pay for a long one, and bounds
+/// the input's length first, so that no input reserves more than the longest answer.
+fn lent<T: Clone + Default>(
+    room: usize,
     job: impl FnOnce(&mut [T]) -> Result<usize, Refusal>,
     length: impl FnOnce(usize) -> usize,
 ) -> Result<Vec<T>, Refusal> {
-    let mut buffer = [T::default(); N];
+    // For a short buffer this is faster than `vec!`, which asks the system for zeroed memory.
+    let mut buffer = Vec::with_capacity(room);
+    buffer.resize(room, T::default());
     let n = job(&mut buffer)?;
-    Ok(buffer[..length(n)].to_vec())
+    buffer.truncate(length(n));
+    Ok(buffer)
 }
 
 /// The number of cells in a row of n symbols.
@@ -358,39 +399,53 @@ fn cells(n: usize) -> usize {
 /// Encodes a text like [`encode`], and returns the row.
 ///
 /// A `&str` has only scalar values and the row always has enough room, so refusals 1 and 5 do not
-/// occur; 2, 3, 19 and 4 do.
+/// occur; 2, 3, 19 and 4 do. The text is copied as code points first, whatever its length, since a
+/// refusal can be for any of them.
 pub fn encode_str(text: &str) -> Result<Vec<u8>, Refusal> {
     let points: Vec<u32> = text.chars().map(u32::from).collect();
-    lent::<u8, MOST_CELLS>(|row| encode(&points, row), cells)
+    // A code point gives at most one symbol.
+    let room = cells(points.len().min(MOST_SYMBOLS));
+    lent(room, |row| encode(&points, row), cells)
 }
 
 /// Draws a symbol list like [`draw`], and returns the row. Refusal 5 does not occur.
 pub fn draw_symbols(symbols: &[u8]) -> Result<Vec<u8>, Refusal> {
-    lent::<u8, MOST_CELLS>(|row| draw(symbols, row), cells)
+    let room = cells(symbols.len().min(MOST_SYMBOLS));
+    lent(room, |row| draw(symbols, row), cells)
 }
 
 /// Reads a row like [`read`], and returns the symbol list. Refusal 5 does not occur.
 pub fn read_row(row: &[u8]) -> Result<Vec<u8>, Refusal> {
-    lent::<u8, MOST_SYMBOLS>(|symbols| read(row, symbols), |n| n)
+    // A symbol takes eleven cells, the check and the stop 24 more.
+    let room = row.len().min(MOST_CELLS).saturating_sub(24) / 11;
+    lent(room, |symbols| read(row, symbols), |n| n)
 }
 
 /// Spells a symbol list like [`spell`], and returns the text. Refusal 5 does not occur.
 pub fn spell_symbols(symbols: &[u8]) -> Result<String, Refusal> {
-    let points = lent::<u32, MOST_CODE_POINTS>(|text| spell(symbols, text), |n| n)?;
+    // The START gives one code point, and every other symbol at most two.
+    let room = (2 * symbols.len().min(MOST_SYMBOLS)).saturating_sub(1);
+    let points: Vec<u32> = lent(room, |text| spell(symbols, text), |n| n)?;
     Ok(points.into_iter().filter_map(char::from_u32).collect())
 }
 
 /// Scans a symbol list like [`scan`], and returns the bytes. Refusal 5 does not occur.
 pub fn scan_symbols(symbols: &[u8]) -> Result<Vec<u8>, Refusal> {
-    lent::<u8, MOST_SCANNED>(|bytes| scan(symbols, bytes), |n| n)
+    // The START sends nothing, and every other symbol at most two bytes.
+    let room = (2 * symbols.len().min(MOST_SYMBOLS)).saturating_sub(2);
+    lent(room, |bytes| scan(symbols, bytes), |n| n)
 }
 
 /// Packs a row like [`pack`], and returns the row record. Refusal 5 does not occur.
 pub fn pack_row(row: &[u8]) -> Result<Vec<u8>, Refusal> {
-    lent::<u8, MOST_RECORD>(|record| pack(row, record), |n| n)
+    // Version and count take at most three bytes, and eight cells one.
+    let room = 3 + (row.len().min(MOST_CELLS) + 7) / 8;
+    lent(room, |record| pack(row, record), |n| n)
 }
 
 /// Unpacks a row record like [`unpack`], and returns the row. Refusal 5 does not occur.
 pub fn unpack_record(record: &[u8]) -> Result<Vec<u8>, Refusal> {
-    lent::<u8, MOST_CELLS>(|row| unpack(record, row), |n| n)
+    // Version and count take at least two bytes, and the rest has eight cells to a byte.
+    let room = (8 * record.len().min(MOST_RECORD).saturating_sub(2)).min(MOST_CELLS);
+    lent(room, |row| unpack(record, row), |n| n)
 }

@@ -1,3 +1,4 @@
+use crate::MOST_SYMBOLS;
 use std::error::Error;
 use std::fmt;
 
@@ -60,7 +61,7 @@ impl fmt::Display for Refusal {
             (1, _) => write!(f, "the value at place {m} is no Unicode scalar value"),
             (2, _) => write!(f, "the text has fewer than two UTF-8 bytes"),
             (3, _) => write!(f, "parsing stops at place {m}"),
-            (4, _) => write!(f, "{m} symbols are needed and 255 is the limit"),
+            (4, _) => write!(f, "{m} symbols are needed and {MOST_SYMBOLS} is the limit"),
             (5, Job::Encode | Job::Draw | Job::Unpack) => {
                 write!(f, "the row's buffer is too short, {m} cells are needed")
             }
@@ -91,8 +92,11 @@ impl fmt::Display for Refusal {
             (15, _) => write!(f, "the cell at place {m} is not the stop's"),
             (19, _) => write!(f, "ź (FNC2) at place {m} is retired"),
             (20, _) => write!(f, "a record of {m} bytes has no head"),
-            (21, _) => write!(f, "the record's version is {m} and not 1"),
-            (22, _) if m == 0 => write!(f, "the record declares no symbols"),
+            (21, _) => write!(f, "the record's version is {m}, neither 1 nor 2"),
+            (22, _) if m == 0 => write!(
+                f,
+                "the record's count is missing, or none that its version has"
+            ),
             (22, _) => write!(
                 f,
                 "the record's length is not what its count needs, {m} bytes"

@@ -8,15 +8,38 @@ fn points(text: &str) -> Vec<u32> {
     text.chars().map(u32::from).collect()
 }
 
-/// A job with every buffer length up to a little more than it needs: it refuses by 5 and leaves the
-/// buffer unchanged, or it fills only the front of the buffer.
+/// A job with every buffer length up to a little more than it needs.
 fn at_every_room<T: Copy + PartialEq + std::fmt::Debug>(
     blank: T,
     out: &[T],
     number: usize,
     job: impl Fn(&mut [T]) -> Result<usize, Refusal>,
 ) {
-    for room in 0..out.len() + 4 {
+    at_rooms(0..out.len() + 4, blank, out, number, job);
+}
+
+/// A job with no buffer, one that is an element too short, the shortest that will do and a longer
+/// one.
+fn at_the_edge<T: Copy + PartialEq + std::fmt::Debug>(
+    blank: T,
+    out: &[T],
+    number: usize,
+    job: impl Fn(&mut [T]) -> Result<usize, Refusal>,
+) {
+    let needed = out.len();
+    at_rooms([0, needed - 1, needed, needed + 3], blank, out, number, job);
+}
+
+/// A job with buffers of these lengths: it refuses by 5 and leaves the buffer unchanged, or it
+/// fills only the front of the buffer.
+fn at_rooms<T: Copy + PartialEq + std::fmt::Debug>(
+    rooms: impl IntoIterator<Item = usize>,
+    blank: T,
+    out: &[T],
+    number: usize,
+    job: impl Fn(&mut [T]) -> Result<usize, Refusal>,
+) {
+    for room in rooms {
         let mut buffer = vec![blank; room];
         match job(&mut buffer) {
             Ok(n) => {
@@ -43,12 +66,63 @@ fn flipped(row: &[u8], places: &[usize]) -> Vec<u8> {
     row
 }
 
-/// What read refuses a row by; the buffer must be as it was lent.
-fn refused(row: &[u8], room: usize) -> (u32, usize) {
-    let mut list = vec![200; room];
-    let refusal = read(row, &mut list).unwrap_err();
-    assert_eq!(list, vec![200; room]);
+/// What a job refuses by with a buffer of this length, which must be as it was lent.
+fn refused_by<T: Copy + PartialEq>(
+    blank: T,
+    room: usize,
+    job: impl Fn(&mut [T]) -> Result<usize, Refusal>,
+) -> (u32, usize) {
+    let mut buffer = vec![blank; room];
+    let refusal = job(&mut buffer).unwrap_err();
+    assert!(buffer.iter().all(|&x| x == blank));
     (refusal.number(), refusal.second())
+}
+
+/// What read refuses a row by.
+fn refused(row: &[u8], room: usize) -> (u32, usize) {
+    refused_by(200, room, |list| read(row, list))
+}
+
+/// A label of n symbols and its list: the first part, and then the others over and over.
+fn label(n: usize, first: (&str, u8), others: &[(&str, u8)]) -> (String, Vec<u8>) {
+    let parts = || [first].into_iter().chain(others.iter().copied().cycle());
+    let text = parts().take(n).map(|(text, _)| text).collect();
+    let symbols = parts().take(n).map(|(_, number)| number).collect();
+    (text, symbols)
+}
+
+/// Labels of n symbols, with their lists: one in each set, and one that goes through all three.
+fn labels(n: usize) -> [(String, Vec<u8>); 4] {
+    [
+        label(n, ("À", 103), &[("\u{1}", 65)]),
+        label(n, ("Ɓ", 104), &[("A", 33), ("a", 65)]),
+        label(n, ("Ć", 105), &[("37", 37), ("99", 99)]),
+        label(
+            n,
+            ("Ɓ", 104),
+            &[
+                ("a", 65),
+                ("Ć", 99),
+                ("42", 42),
+                ("À", 101),
+                ("Ź", 102),
+                ("Ɓ", 100),
+            ],
+        ),
+    ]
+}
+
+/// The record of a row of n symbols, made bit by bit.
+fn record_of(n: usize, row: &[u8]) -> Vec<u8> {
+    let head = match n {
+        0..=255 => vec![1, n as u8],
+        _ => vec![2, (n >> 8) as u8, n as u8],
+    };
+    let byte = |cells: &[u8]| {
+        let bits = cells.iter().enumerate();
+        bits.map(|(i, cell)| cell << (7 - i)).sum()
+    };
+    head.into_iter().chain(row.chunks(8).map(byte)).collect()
 }
 
 #[test]
@@ -113,7 +187,7 @@ fn shift_shifts_in_scan() {
 /// many symbols; the buffer is as it was lent.
 #[test]
 fn fnc2_is_retired() {
-    let long = format!("Ć{}Ɓ{}ź", "97".repeat(3), "A".repeat(300));
+    let long = format!("Ć{}Ɓ{}ź", "97".repeat(3), "A".repeat(4000));
     let labels: [(&str, u32, usize); 14] = [
         ("Ɓź", 19, 1),
         ("Àź", 19, 1),
@@ -121,7 +195,7 @@ fn fnc2_is_retired() {
         ("Ć97Ɓaź", 19, 5),
         ("Ć9Ź7ÀźĆ97", 19, 5),
         ("ÀŽź", 19, 2),
-        (&long, 19, 308),
+        (&long, 19, 4008),
         ("Ɓź€", 3, 2),
         ("ƁźĆ1", 3, 4),
         ("ÀźaƁź", 3, 2),
@@ -222,10 +296,10 @@ fn refusals_leave_the_buffer_and_speak() {
             "refusal 19: ź (FNC2) at place 1 is retired",
         ),
         (
-            encode(&points(&format!("Ɓ{}", "A".repeat(255))), &mut row),
+            encode(&points(&format!("Ɓ{}", "A".repeat(4000))), &mut row),
             4,
-            256,
-            "refusal 4: 256 symbols are needed and 255 is the limit",
+            4001,
+            "refusal 4: 4001 symbols are needed and 4000 is the limit",
         ),
         (
             encode(&points("Ć12"), &mut row),
@@ -306,16 +380,22 @@ fn refusals_leave_the_buffer_and_speak() {
             "refusal 20: a record of 1 bytes has no head",
         ),
         (
-            unpack(&[2, 1], &mut row),
+            unpack(&[3, 9], &mut row),
             21,
-            2,
-            "refusal 21: the record's version is 2 and not 1",
+            3,
+            "refusal 21: the record's version is 3, neither 1 nor 2",
         ),
         (
-            unpack(&[1, 0], &mut row),
+            unpack(&[2, 1], &mut row),
             22,
             0,
-            "refusal 22: the record declares no symbols",
+            "refusal 22: the record's count is missing, or none that its version has",
+        ),
+        (
+            unpack(&[2, 1, 0], &mut row),
+            22,
+            358,
+            "refusal 22: the record's length is not what its count needs, 358 bytes",
         ),
         (
             unpack(&[1, 1, 0, 0, 0, 0, 1], &mut row),
@@ -364,10 +444,10 @@ fn two_worn_cells() {
     assert_eq!(refused(&flipped(&row, &[12, 19]), MOST_SYMBOLS), (12, 1));
     assert_eq!(refused(&flipped(&row, &[2, 10]), 0), (12, 0));
     // A worn block and one that is none of the patterns: the left one is answered.
-    assert_eq!(refused(&flipped(&row, &[12, 22, 23]), 255), (16, 1));
-    assert_eq!(refused(&flipped(&row, &[12, 19, 22]), 255), (12, 1));
+    assert_eq!(refused(&flipped(&row, &[12, 22, 23]), 7), (16, 1));
+    assert_eq!(refused(&flipped(&row, &[12, 19, 22]), 7), (12, 1));
     // Two cells can also leave another pattern, 93 for 33: then the check is wrong.
-    assert_eq!(refused(&flipped(&row, &[19, 20]), 255).0, 14);
+    assert_eq!(refused(&flipped(&row, &[19, 20]), 7).0, 14);
 }
 
 #[test]
@@ -380,7 +460,7 @@ fn a_row_upside_down() {
 
 #[test]
 fn the_limits() {
-    let longest = format!("Ć{}", "37".repeat(254));
+    let longest = format!("Ć{}", "37".repeat(3999));
     let row = encode_str(&longest).unwrap();
     assert_eq!(row.len(), MOST_CELLS);
     let symbols = read_row(&row).unwrap();
@@ -394,6 +474,160 @@ fn the_limits() {
     assert_eq!(record.len(), MOST_RECORD);
     assert_eq!(unpack_record(&record).unwrap(), row);
     assert_eq!(encode_str(&format!("{longest}00")).unwrap_err().number(), 4);
+}
+
+/// Every job on each side of where the record's version changes, and at the limit.
+#[test]
+fn long_labels() {
+    for (n, length) in [(255, 356), (256, 358), (257, 360), (4000, 5506)] {
+        for (text, symbols) in labels(n) {
+            let row = encode_str(&text).unwrap();
+            assert_eq!(row.len(), 11 * (n + 1) + 13);
+            at_the_edge(9, &row, n, |out| encode(&points(&text), out));
+            assert_eq!(Code128::new(&text).unwrap().encode(), row);
+            assert_eq!(draw_symbols(&symbols).unwrap(), row);
+            at_the_edge(9, &row, n, |out| draw(&symbols, out));
+            assert_eq!(read_row(&row).unwrap(), symbols);
+            at_the_edge(200, &symbols, n, |out| read(&row, out));
+            assert_eq!(spell_symbols(&symbols).unwrap(), text);
+            let spelled = points(&text);
+            at_the_edge(7, &spelled, spelled.len(), |out| spell(&symbols, out));
+            let sent: Vec<u8> = text.bytes().filter(u8::is_ascii).collect();
+            assert_eq!(scan_symbols(&symbols).unwrap(), sent);
+            at_the_edge(200, &sent, sent.len(), |out| scan(&symbols, out));
+            let record = pack_row(&row).unwrap();
+            assert_eq!(record, record_of(n, &row));
+            assert_eq!(record.len(), length);
+            at_the_edge(9, &record, length, |out| pack(&row, out));
+            assert_eq!(unpack_record(&record).unwrap(), row);
+            at_the_edge(9, &row, row.len(), |out| unpack(&record, out));
+        }
+    }
+}
+
+/// Many lengths up to the limit: from text to record and back, and the check.
+#[test]
+fn many_lengths() {
+    for n in (1..=520).chain(3995..=4000) {
+        for (text, symbols) in labels(n) {
+            let row = encode_str(&text).unwrap();
+            assert_eq!(read_row(&row).unwrap(), symbols, "{n}");
+            assert_eq!(draw_symbols(&symbols).unwrap(), row, "{n}");
+            assert_eq!(spell_symbols(&symbols).unwrap(), text, "{n}");
+            let record = pack_row(&row).unwrap();
+            assert_eq!(record, record_of(n, &row), "{n}");
+            assert_eq!(unpack_record(&record).unwrap(), row, "{n}");
+            let weighed = symbols.iter().enumerate();
+            let sum: usize = weighed.map(|(i, &x)| i.max(1) * usize::from(x)).sum();
+            let checked = draw_symbols(&[103, (sum % 103) as u8]).unwrap();
+            assert_eq!(row[11 * n..11 * n + 11], checked[11..22], "{n}");
+        }
+    }
+}
+
+/// One symbol, or some cells, above the limit: refused whatever the room.
+#[test]
+fn too_long() {
+    for (text, symbols) in labels(4001) {
+        for room in [0, MOST_CELLS, MOST_CELLS + 11] {
+            let answer = refused_by(9, room, |out| encode(&points(&text), out));
+            assert_eq!(answer, (4, 4001));
+            let answer = refused_by(9, room, |out| draw(&symbols, out));
+            assert_eq!(answer, (10, 4001));
+            let answer = refused_by(7, room, |out| spell(&symbols, out));
+            assert_eq!(answer, (10, 4001));
+            let answer = refused_by(200, room, |out| scan(&symbols, out));
+            assert_eq!(answer, (10, 4001));
+        }
+        assert_eq!(encode_str(&text).unwrap_err().number(), 4);
+        assert_eq!(Code128::new(&text).unwrap_err(), Error::Length);
+    }
+    for length in [MOST_CELLS - 1, MOST_CELLS + 1, MOST_CELLS + 11] {
+        let row = vec![1; length];
+        for room in [0, MOST_CELLS] {
+            assert_eq!(refused(&row, room), (10, length));
+            assert_eq!(refused_by(9, room, |out| pack(&row, out)), (10, length));
+        }
+    }
+}
+
+/// What unpack refuses a record by, with no room and with room for any row.
+fn refused_record(record: &[u8]) -> (u32, usize) {
+    let answer = refused_by(9, 0, |row| unpack(record, row));
+    let roomy = refused_by(9, MOST_CELLS, |row| unpack(record, row));
+    assert_eq!(roomy, answer);
+    let refusal = unpack_record(record).unwrap_err();
+    assert_eq!((refusal.number(), refusal.second()), answer);
+    answer
+}
+
+/// A record of version 2 with this count, and then as many bytes of spaces.
+fn version_2(count: u16, bytes: usize) -> Vec<u8> {
+    let [high, low] = count.to_be_bytes();
+    [&[2, high, low], &vec![0; bytes][..]].concat()
+}
+
+#[test]
+fn refused_heads() {
+    let heads: [(&[u8], u32, usize); 22] = [
+        (&[], 20, 0),
+        (&[1], 20, 1),
+        (&[2], 20, 1),
+        (&[0, 9], 21, 0),
+        (&[3, 9], 21, 3),
+        (&[255, 1, 0], 21, 255),
+        (&[1, 0], 22, 0),
+        (&[1, 0, 0], 22, 0),
+        (&[2, 0], 22, 0),
+        (&[2, 1], 22, 0),
+        (&[2, 255], 22, 0),
+        (&[2, 0, 0], 22, 0),
+        (&[2, 0, 1], 22, 0),
+        (&[2, 0, 255], 22, 0),
+        (&[2, 15, 161], 22, 0),
+        (&[2, 16, 0], 22, 0),
+        (&[2, 255, 255], 22, 0),
+        (&[1, 1], 22, 7),
+        (&[1, 255], 22, 356),
+        (&[2, 1, 0], 22, 358),
+        (&[2, 1, 1], 22, 360),
+        (&[2, 15, 160], 22, 5506),
+    ];
+    for (head, number, second) in heads {
+        assert_eq!(refused_record(head), (number, second), "{head:?}");
+    }
+}
+
+/// Counts of version 2 that are too small or too large, with the bytes that they would need; and a
+/// byte less and a byte more than a good count needs.
+#[test]
+fn refused_lengths() {
+    assert_eq!(refused_record(&version_2(255, 354)), (22, 0));
+    assert_eq!(refused_record(&version_2(4001, 5505)), (22, 0));
+    for (count, bytes) in [(256, 355), (257, 357), (4000, 5503)] {
+        let row = unpack_record(&version_2(count, bytes)).unwrap();
+        assert_eq!(row, vec![0; 11 * usize::from(count) + 24]);
+        for wrong in [bytes - 1, bytes + 1] {
+            let answer = refused_record(&version_2(count, wrong));
+            assert_eq!(answer, (22, 3 + bytes));
+        }
+    }
+}
+
+/// 257 symbols have 2,851 cells, so that 5 bits of the last byte are spare; 3,999 leave 3.
+#[test]
+fn spare_bits() {
+    for (count, bytes, spare) in [(257, 357, 5), (3999, 5502, 3)] {
+        for bit in 0..8 {
+            let mut record = version_2(count, bytes);
+            record[2 + bytes] = 1 << bit;
+            if bit < spare {
+                assert_eq!(refused_record(&record), (23, 2 + bytes));
+            } else {
+                assert_eq!(unpack_record(&record).unwrap().len(), 8 * bytes - spare);
+            }
+        }
+    }
 }
 
 #[test]
@@ -413,11 +647,11 @@ fn the_signatures_of_barcoders() {
     assert_eq!(Code128::new("ÀŽa").unwrap_err(), Error::Character);
     assert_eq!(Code128::new("Ɓź").unwrap_err(), Error::Character);
     assert_eq!(
-        Code128::new(format!("Ɓ{}", "A".repeat(255))).unwrap_err(),
+        Code128::new(format!("Ɓ{}", "A".repeat(4000))).unwrap_err(),
         Error::Length
     );
     assert_eq!(
-        Code128::new(format!("Ɓ{}ź", "A".repeat(255))).unwrap_err(),
+        Code128::new(format!("Ɓ{}ź", "A".repeat(4000))).unwrap_err(),
         Error::Character
     );
     assert_eq!(Error::Character.to_string(), "Barcode data is invalid");

@@ -11,7 +11,7 @@ use Rattle.code128.proofs.checksum_value.Statement.{statement}
 use Rattle.code128.proofs.checksum_value.Tie as tie
 
 abbrev Inv-loop : tie.InvT-loop
-Inv-loop symbols n sum₀ weight₀ i₀ sum weight i = (n ≡ min (length symbols) 256) × (i ≤ n) × (weight ≡ i) × Summing (take 256 symbols) sum i
+Inv-loop symbols n sum₀ weight₀ i₀ sum weight i = (n ≡ min (length symbols) 4000) × (i ≤ n) × (weight ≡ i) × Summing (take 4000 symbols) sum i
 
 abbrev μ-loop : tie.MeasureT-loop
 μ-loop symbols n sum₀ weight₀ i₀ sum weight i = n - i
@@ -20,7 +20,7 @@ shorter-requires : tie.Need-shorter-requires Inv-loop μ-loop
 shorter-requires c κs = search needs
 
 returns : tie.Need-returns Inv-loop μ-loop
-returns c = sym (check-of-none _ (omega (arith, length-take 256 (c .before .before .before .args .symbols .now))))
+returns c = sym (check-of-none _ (omega (arith, length-take 4000 (c .before .before .before .args .symbols .now))))
 
 shared-slice-read-sum : tie.Need-shared-slice-read-sum Inv-loop μ-loop
 shared-slice-read-sum c = search needs
@@ -32,7 +32,7 @@ loop-holds : tie.Need-loop-holds Inv-loop μ-loop
 loop-holds c =
     let s = c .before .before .before .before .args .symbols .now in
     let v = c .shared-slice-known2 .given 0 in
-    (omega arith, omega arith, omega arith, summing-begin (omega (arith, length-take 256 s)) (sym (getD-take 256 s 0 0 (omega arith))) (omega arith))
+    (omega arith, omega arith, omega arith, summing-begin (omega (arith, length-take 4000 s)) (sym (getD-take 4000 s 0 0 (omega arith))) (omega arith))
 
 shared-slice-read-sum-2 : tie.Need-shared-slice-read-sum-2 Inv-loop μ-loop
 shared-slice-read-sum-2 c = search needs
@@ -45,7 +45,7 @@ module _ (p : tie.After-shared-slice-known3 Inv-loop μ-loop) where
   byte : number < 256
   byte = omega (arith, p .shared-slice-known3 .given (p .before .before .loop .i))
 
-  product : p .before .before .loop .weight * number ≤ 65025
+  product : p .before .before .loop .weight * number ≤ 1019745
   product = small (p .before .before .loop .weight) number (omega arith) (omega (arith, byte))
 
 cast-sum-2 : tie.Need-cast-sum-2 Inv-loop μ-loop
@@ -74,14 +74,14 @@ loop-again c =
       omega arith,
       omega arith,
       omega arith,
-      summing-turn (at-loop .loop .inv .3) (at-loop .loop .inv .2) (omega (arith, length-take 256 s)) (omega arith) (sym (getD-take 256 s (at-loop .loop .i) 0 (omega arith))) (omega arith),
+      summing-turn (at-loop .loop .inv .3) (at-loop .loop .inv .2) (omega (arith, length-take 4000 s)) (omega arith) (sym (getD-take 4000 s (at-loop .loop .i) 0 (omega arith))) (omega arith),
     )
 
 cast-result : tie.Need-cast-result Inv-loop μ-loop
 cast-result c = search needs
 
 returns-2 : tie.Need-returns-2 Inv-loop μ-loop
-returns-2 c = summing-end (c .before .loop .inv .3) (omega (arith, length-take 256 (c .before .before .before .before .before .before .args .symbols .now)))
+returns-2 c = summing-end (c .before .loop .inv .3) (omega (arith, length-take 4000 (c .before .before .before .before .before .before .args .symbols .now)))
 
 pub checksum-value-spec : {M : Type 1} → statement M
 checksum-value-spec =

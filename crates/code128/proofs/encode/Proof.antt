@@ -1,88 +1,86 @@
--- `code128::encode` meets its contract: where parsing stops, what is asked before; else the first ź,
--- the limit, and after it the row.
+-- `code128::encode` meets its contract: whatever the text's length, the list has room, and what is
+-- listed is drawn.
 -- Assumes nothing.
-use mathlib.Core.Path.{sym, _∙_}
 use native.Mathlib.Omega.{arith}
-use Rattle.helpers.specs.Numbers.{refusalNumber}
-use Rattle.helpers.specs.declared.Refusal.the-variants.{Symbols, Retired}
-use Rattle.helpers.proofs.Gives.{refused, handed-on}
-use Rattle.code128.proofs.Encodes.{encode-stops, encode-retired, encode-long, encode-fits}
+use Rattle.paper.specs.Jobs.{most}
 use borrow.Author.Needs.{needs}
 use Rattle.code128.proofs.encode.Statement.{statement}
 use Rattle.code128.proofs.encode.Tie as tie
 
-slice-aggregate-parse : tie.Need-slice-aggregate-parse
-slice-aggregate-parse c = search needs
+slice-aggregate-list-symbols : tie.Need-slice-aggregate-list-symbols
+slice-aggregate-list-symbols c = search needs
 
-parse-requires : tie.Need-parse-requires
-parse-requires c κs = search needs
+list-symbols-requires : tie.Need-list-symbols-requires
+list-symbols-requires c κs = search needs
 
-enum-known-place : tie.Need-enum-known-place
-enum-known-place c = search needs
+slice-aggregate-draw-listed : tie.Need-slice-aggregate-draw-listed
+slice-aggregate-draw-listed c = search needs
 
-stopped-requires : tie.Need-stopped-requires
-stopped-requires c κs = search needs
+draw-listed-requires : tie.Need-draw-listed-requires
+draw-listed-requires c κs = search needs
 
-enum-known-place-2 : tie.Need-enum-known-place-2
-enum-known-place-2 c = search needs
+slice-aggregate-list-symbols-2 : tie.Need-slice-aggregate-list-symbols-2
+slice-aggregate-list-symbols-2 c = search needs
 
-enum-known-n : tie.Need-enum-known-n
-enum-known-n c = search needs
+list-symbols-requires-2 : tie.Need-list-symbols-requires-2
+list-symbols-requires-2 c κs = search needs
 
-returns : tie.Need-returns
-unfolding refusalNumber
-returns c =
-    let p = c .before .before .before .before .before in
-    refused Symbols _ (encode-long _ _ _ _ (p .parse .ensures) _ _ (c .before .before .n .given .1) (omega arith))
+slice-aggregate-draw-listed-2 : tie.Need-slice-aggregate-draw-listed-2
+slice-aggregate-draw-listed-2 c = search needs
 
-sub-write-row : tie.Need-sub-write-row
-sub-write-row c = search needs
+draw-listed-requires-2 : tie.Need-draw-listed-requires-2
+draw-listed-requires-2 c κs = search needs
 
-part-write-row-start : tie.Need-part-write-row-start
-part-write-row-start c = search needs
+slice-aggregate-list-symbols-3 : tie.Need-slice-aggregate-list-symbols-3
+slice-aggregate-list-symbols-3 c = search needs
 
-part-write-row-end : tie.Need-part-write-row-end
-part-write-row-end c = search needs
+list-symbols-requires-3 : tie.Need-list-symbols-requires-3
+unfolding most
+list-symbols-requires-3 c κs = omega arith
 
-write-row-requires : tie.Need-write-row-requires
-write-row-requires c κs =
-    let p = c .before .before .before .before .before .before .before .before in
-    encode-fits _ _ _ _ (p .parse .ensures) _ (c .before .before .before .before .before .n .given .1) (omega arith) (omega arith) .proper
+slice-aggregate-draw-listed-3 : tie.Need-slice-aggregate-draw-listed-3
+slice-aggregate-draw-listed-3 c = search needs
 
-returns-2 : tie.Need-returns-2
-returns-2 c =
-    let p = c .before .before .before .before .before in
-    handed-on _ (c .stopped .ensures ∙ sym (encode-stops _ _ _ _ (p .parse .ensures) _ _ (c .before .before .place .given .1)))
-
-returns-3 : tie.Need-returns-3
-unfolding refusalNumber
-returns-3 c = refused Retired _ (encode-retired _ _ _ _ (c .before .before .before .before .parse .ensures) _ _ (c .before .place2 .given .1))
+draw-listed-requires-3 : tie.Need-draw-listed-requires-3
+draw-listed-requires-3 c κs = search needs
 
 same-length : tie.Need-same-length
 same-length c = search needs
 
-returns-4 : tie.Need-returns-4
-returns-4 c =
-    let p = c .before .before .before .before .before .before .before .before .before .before .before in
-    let fits = encode-fits _ _ _ _ (p .parse .ensures) _ (c .before .before .before .before .before .before .before .before .n .given .1) (omega arith) (omega arith) in
-    rw (fits .draws _) (c .before .before .write-row .ensures)
+returns : tie.Need-returns
+returns c = rw (c .before .before .before .before .before .before .list-symbols .ensures .listed _) (c .before .before .draw-listed .ensures)
+
+same-length-2 : tie.Need-same-length-2
+same-length-2 c = search needs
+
+returns-2 : tie.Need-returns-2
+returns-2 c = rw (c .before .before .before .before .before .before .list-symbols2 .ensures .listed _) (c .before .before .draw-listed2 .ensures)
+
+same-length-3 : tie.Need-same-length-3
+same-length-3 c = search needs
+
+returns-3 : tie.Need-returns-3
+returns-3 c = rw (c .before .before .before .before .before .before .list-symbols3 .ensures .listed _) (c .before .before .draw-listed3 .ensures)
 
 pub encode-spec : {M : Type 1} → statement M
 encode-spec =
     tie.close
     (tie.spec
-    slice-aggregate-parse
-    parse-requires
-    enum-known-place
-    stopped-requires
-    enum-known-place-2
-    enum-known-n
-    returns
-    sub-write-row
-    part-write-row-start
-    part-write-row-end
-    write-row-requires
-    returns-2
-    returns-3
+    slice-aggregate-list-symbols
+    list-symbols-requires
+    slice-aggregate-draw-listed
+    draw-listed-requires
+    slice-aggregate-list-symbols-2
+    list-symbols-requires-2
+    slice-aggregate-draw-listed-2
+    draw-listed-requires-2
+    slice-aggregate-list-symbols-3
+    list-symbols-requires-3
+    slice-aggregate-draw-listed-3
+    draw-listed-requires-3
     same-length
-    returns-4)
+    returns
+    same-length-2
+    returns-2
+    same-length-3
+    returns-3)

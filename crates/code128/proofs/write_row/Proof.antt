@@ -42,7 +42,7 @@ module _ (p : tie.After-checksum-value) where
   unfolding most
   right =
       let start = p .before .before .before .before .before .before in
-      p .checksum-value .ensures ∙ ap check (take-all 256 (start .args .symbols .now) (omega (arith, start .pre .size)))
+      p .checksum-value .ensures ∙ ap check (take-all 4000 (start .args .symbols .now) (omega (arith, start .pre .size)))
 
   small : p .checksum-value .result < 106
   small = omega (arith, right, check-small (p .before .before .before .before .before .before .args .symbols .now))

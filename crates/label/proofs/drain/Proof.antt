@@ -8,7 +8,7 @@ use Rattle.label.proofs.drain.Statement.{statement}
 use Rattle.label.proofs.drain.Tie as tie
 
 abbrev Inv-loop : tie.InvT-loop
-Inv-loop chunk₀ line₀ out₀ len₀ used₀ turns₀ chunk line out len used turns = (length out ≡ length out₀) × (length chunk ≡ length chunk₀) × (length line ≡ length line₀) × (used + 2840 ≤ length out)
+Inv-loop chunk₀ line₀ out₀ len₀ used₀ turns₀ chunk line out len used turns = (length out ≡ length out₀) × (length chunk ≡ length chunk₀) × (length line ≡ length line₀) × (used + 22560 ≤ length out)
 
 abbrev μ-loop : tie.MeasureT-loop
 μ-loop chunk₀ line₀ out₀ len₀ used₀ turns₀ chunk line out len used turns = turns

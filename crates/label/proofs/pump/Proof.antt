@@ -9,7 +9,7 @@ use Rattle.label.proofs.pump.Statement.{statement}
 use Rattle.label.proofs.pump.Tie as tie
 
 abbrev Inv-loop : tie.InvT-loop
-Inv-loop chunk line₀ len out₀ used at₀ n₀ u₀ line out at n u = (length out ≡ length out₀) × (length line ≡ length line₀) × (u + 2840 ≤ length out)
+Inv-loop chunk line₀ len out₀ used at₀ n₀ u₀ line out at n u = (length out ≡ length out₀) × (length line ≡ length line₀) × (u + 22560 ≤ length out)
 
 abbrev μ-loop : tie.MeasureT-loop
 μ-loop chunk line₀ len out₀ used at₀ n₀ u₀ line out at n u = length chunk - at

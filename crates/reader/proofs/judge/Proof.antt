@@ -5,6 +5,7 @@ use mathlib.Core.Path.{_≡_}
 use mathlib.Core.List.{List, []}
 use native.Mathlib.Omega.{arith}
 use Rattle.helpers.specs.Answers.{accept}
+use Rattle.paper.specs.Jobs.{most, rowLength}
 use Rattle.helpers.proofs.Gives.{said-done}
 use Rattle.shapes.specs.Vetted.{shaped}
 use Rattle.shapes.proofs.Shaping.{Shaped, row-proper}
@@ -43,6 +44,7 @@ add-blocks : tie.Need-add-blocks
 add-blocks c = omega (arith, proper (c .before))
 
 blocks-requires : tie.Need-blocks-requires
+unfolding rowLength most
 blocks-requires c κs = let p = proper (c .before .before) in (omega arith, p .two-colours, omega arith)
 
 enum-told-2 : tie.Need-enum-told-2
@@ -78,6 +80,7 @@ returns-3 c =
     judge-stop _ (accepted (at-blocks .before .before .before)) _ (at-stops .before .enum-told2 .given .1) (at-blocks .blocks2 .ensures) _ (at-stops .stops .ensures) (c .enum-told5 .given .1)
 
 checks-requires : tie.Need-checks-requires
+unfolding rowLength most
 checks-requires c κs =
     let at-blocks = c .before .before .before .before .before .before .before .before in
     let p = proper (at-blocks .before .before .before) in

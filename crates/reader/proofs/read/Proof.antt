@@ -1,73 +1,45 @@
--- `reader::read` keeps its promise: a refusal handed on, too little room, or the symbols stored.
+-- `reader::read` meets its contract: whatever the row's length, the list has room.
 -- Assumes nothing.
 use native.Mathlib.Omega.{arith}
-use Rattle.helpers.specs.declared.Refusal.the-variants.{Room}
-use Rattle.helpers.specs.Numbers.{refusalNumber}
-use Rattle.helpers.proofs.Gives.{refused}
-use Rattle.reader.proofs.Judges.{read-refused, read-front, read-short, read-stored}
+use Rattle.paper.specs.Jobs.{most, rowLength}
 use borrow.Author.Needs.{needs}
 use Rattle.reader.proofs.read.Statement.{statement}
 use Rattle.reader.proofs.read.Tie as tie
 
-slice-aggregate-judge : tie.Need-slice-aggregate-judge
-slice-aggregate-judge c = search needs
+slice-aggregate-read-by : tie.Need-slice-aggregate-read-by
+slice-aggregate-read-by c = search needs
 
-judge-requires : tie.Need-judge-requires
-judge-requires c κs = search needs
-
-enum-known-so-far : tie.Need-enum-known-so-far
-enum-known-so-far c = search needs
-
-enum-told : tie.Need-enum-told
-enum-told c = search needs
-
-returns : tie.Need-returns
-returns c =
-    let refusal = c .enum-told .given .1 in
-    rw refusal (refused _ _ (read-refused (c .before .before .before .judge .ensures) _ refusal))
-
-returns-2 : tie.Need-returns-2
-unfolding refusalNumber
-returns-2 c =
-    let passed = c .before .before in
-    refused Room _ (read-short (passed .before .before .before .judge .ensures) (passed .so-far .given .1) _ (c .if1 .taken))
-
-sub-join-slices : tie.Need-sub-join-slices
-sub-join-slices c = search needs
-
-part-join-slices-start : tie.Need-part-join-slices-start
-part-join-slices-start c = search needs
-
-part-join-slices-end : tie.Need-part-join-slices-end
-part-join-slices-end c =
-    let passed = c .before .before .before .before in
-    omega (arith, read-front (passed .before .before .before .judge .ensures) (passed .so-far .given .1))
-
-join-slices-requires : tie.Need-join-slices-requires
-join-slices-requires c κs = search needs
+read-by-requires : tie.Need-read-by-requires
+read-by-requires c κs = search needs
 
 same-length : tie.Need-same-length
 same-length c = search needs
 
-returns-3 : tie.Need-returns-3
-returns-3 c =
-    let at-join = c .before .before in
-    let passed = at-join .before .before .before .before .before .before in
-    read-stored (passed .before .before .before .judge .ensures) (passed .so-far .given .1) _ _ (omega arith) (at-join .join-slices .ensures)
+returns : tie.Need-returns
+returns c = search needs
+
+slice-aggregate-read-by-2 : tie.Need-slice-aggregate-read-by-2
+slice-aggregate-read-by-2 c = search needs
+
+read-by-requires-2 : tie.Need-read-by-requires-2
+unfolding rowLength most
+read-by-requires-2 c κs = omega arith
+
+same-length-2 : tie.Need-same-length-2
+same-length-2 c = search needs
+
+returns-2 : tie.Need-returns-2
+returns-2 c = search needs
 
 pub read-spec : {M : Type 1} → statement M
 read-spec =
     tie.close
     (tie.spec
-    slice-aggregate-judge
-    judge-requires
-    enum-known-so-far
-    enum-told
-    returns
-    returns-2
-    sub-join-slices
-    part-join-slices-start
-    part-join-slices-end
-    join-slices-requires
+    slice-aggregate-read-by
+    read-by-requires
     same-length
-    returns-3)
+    returns
+    slice-aggregate-read-by-2
+    read-by-requires-2
+    same-length-2
+    returns-2)

@@ -10,10 +10,10 @@ use Rattle.record.proofs.put_bytes.Statement.{statement}
 use Rattle.record.proofs.put_bytes.Tie as tie
 
 abbrev Inv-loop : tie.InvT-loop
-Inv-loop row out₀ len full k₀ out k = (len ≡ length row) × (full ≡ length row / 8) × (k ≤ full) × Packing row out₀ out k
+Inv-loop row start out₀ len full k₀ out k = (len ≡ length row) × (full ≡ length row / 8) × (k ≤ full) × Packing row start out₀ out k
 
 abbrev μ-loop : tie.MeasureT-loop
-μ-loop row out₀ len full k₀ out k = full - k
+μ-loop row start out₀ len full k₀ out k = full - k
 
 loop-holds : tie.Need-loop-holds Inv-loop μ-loop
 loop-holds c = (omega arith, omega arith, omega arith, packing-begin)

@@ -33,17 +33,23 @@ returns-2 c =
     let p = known (c .before .before) in
     refused Room _ (p .answer _ ∙ into-short _ _ _ _ (omega arith) (sym (p .long)))
 
+add-start : tie.Need-add-start
+add-start c = search needs
+
+sub-start : tie.Need-sub-start
+sub-start c = known (c .before .before) .headed
+
 sub-put-cells : tie.Need-sub-put-cells
-sub-put-cells c = known (c .before .before) .headed
+sub-put-cells c = search needs
 
 part-put-cells-start : tie.Need-part-put-cells-start
-part-put-cells-start c = known (c .before .before) .headed
+part-put-cells-start c = search needs
 
 part-put-cells-end : tie.Need-part-put-cells-end
 part-put-cells-end c = search needs
 
 put-cells-requires : tie.Need-put-cells-requires
-put-cells-requires c κs = (known (c .before .before .before .before) .enough, omega arith)
+put-cells-requires c κs = (omega (arith, known (c .before .before .before .before) .enough), omega arith)
 
 same-length : tie.Need-same-length
 same-length c = search needs
@@ -62,6 +68,8 @@ unpack-spec =
     enum-told
     returns
     returns-2
+    add-start
+    sub-start
     sub-put-cells
     part-put-cells-start
     part-put-cells-end

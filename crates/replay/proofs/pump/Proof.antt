@@ -9,7 +9,7 @@ use Rattle.replay.proofs.pump.Statement.{statement}
 use Rattle.replay.proofs.pump.Tie as tie
 
 abbrev Inv-loop : tie.InvT-loop
-Inv-loop chunk line₀ len out₀ at₀ n₀ line out at n = (length out ≡ 2840) × (length line ≡ length line₀)
+Inv-loop chunk line₀ len out₀ at₀ n₀ line out at n = (length out ≡ 22560) × (length line ≡ length line₀)
 
 abbrev μ-loop : tie.MeasureT-loop
 μ-loop chunk line₀ len out₀ at₀ n₀ line out at n = length chunk - at

@@ -10,8 +10,8 @@ use Rattle.replay.proofs.show_symbols.Tie as tie
 
 -- once read has accepted the row
 module _ (p : tie.After-answer) where
-  limited : p .answer .given .0 .0 ≤ 255
-  limited = counted (p .before .before .before .read .result) _ _ (replicate 256 0) _ (p .answer .given .1) (p .before .before .before .read .ensures)
+  limited : p .answer .given .0 .0 ≤ 4000
+  limited = counted (p .before .before .before .read .result) _ _ (replicate 4001 0) _ (p .answer .given .1) (p .before .before .before .read .ensures)
 
 slice-aggregate-read : tie.Need-slice-aggregate-read
 slice-aggregate-read c = search needs

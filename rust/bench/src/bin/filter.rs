@@ -2,12 +2,13 @@
 //! `filter < labels.txt > rows.txt`.
 use std::io::{self, BufReader, BufWriter};
 
-/// The size of both buffers, as in the label program.
-const BUFFER: usize = 65536;
+/// The sizes of the two buffers, as in the label program.
+const INPUT: usize = 65536;
+const OUTPUT: usize = 88096;
 
 /// Runs the filter from standard input to standard output, both buffered.
 fn main() -> io::Result<()> {
-    let input = BufReader::with_capacity(BUFFER, io::stdin().lock());
-    let output = BufWriter::with_capacity(BUFFER, io::stdout().lock());
+    let input = BufReader::with_capacity(INPUT, io::stdin().lock());
+    let output = BufWriter::with_capacity(OUTPUT, io::stdout().lock());
     bench::filter::run(input, output)
 }

@@ -11,7 +11,8 @@
 //! It answers as barcoders does, with two differences:
 //!
 //! - data with ź (FNC2), which barcoders takes in sets A and B, is refused by [`Error::Character`];
-//! - data of more than 255 symbols is refused by [`Error::Length`], if it has no ź.
+//! - data of more than 4,000 symbols is refused by [`Error::Length`], if it has no ź. Before
+//!   version 1.4.0 the limit was 255.
 //!
 //! [`crate::encode`] describes the data; [`crate::encode_str`] also says at which place the data
 //! cannot be encoded.
@@ -26,7 +27,7 @@ impl Code128 {
     ///
     /// Returns [`Error::Character`] if a character cannot be encoded at its place, a digit is left
     /// over, or the data has a ź (FNC2); and [`Error::Length`] if the data has fewer than two UTF-8
-    /// bytes or needs more than 255 symbols.
+    /// bytes or needs more than 4,000 symbols.
     pub fn new<T: AsRef<str>>(data: T) -> Result<Code128> {
         match crate::encode_str(data.as_ref()) {
             Ok(row) => Ok(Code128(row)),

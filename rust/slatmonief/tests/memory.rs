@@ -1,0 +1,92 @@
+//! What the calls that return a `Vec` or a `String` reserve: by the length of the input, and no
+//! more than for the longest answer.
+use slatmonief::*;
+use std::alloc::{GlobalAlloc, Layout, System};
+use std::cell::Cell;
+
+thread_local! {
+    /// The most bytes that this thread has reserved at once since it was last set to 0.
+    static MOST: Cell<usize> = const { Cell::new(0) };
+}
+
+/// The system's allocator, which also notes what it is asked for.
+struct Noted;
+
+fn note(size: usize) {
+    MOST.with(|most| most.set(most.get().max(size)));
+}
+
+// SAFETY: each call is the system's own.
+unsafe impl GlobalAlloc for Noted {
+    unsafe fn alloc(&self, layout: Layout) -> *mut u8 {
+        note(layout.size());
+        System.alloc(layout)
+    }
+    unsafe fn alloc_zeroed(&self, layout: Layout) -> *mut u8 {
+        note(layout.size());
+        System.alloc_zeroed(layout)
+    }
+    unsafe fn realloc(&self, place: *mut u8, layout: Layout, size: usize) -> *mut u8 {
+        note(size);
+        System.realloc(place, layout, size)
+    }
+    unsafe fn dealloc(&self, place: *mut u8, layout: Layout) {
+        System.dealloc(place, layout)
+    }
+}
+
+#[global_allocator]
+static NOTED: Noted = Noted;
+
+/// What a call returns, and the most bytes that it reserves at once.
+fn noted<T>(call: impl FnOnce() -> T) -> (T, usize) {
+    MOST.with(|most| most.set(0));
+    let result = call();
+    (result, MOST.with(Cell::get))
+}
+
+/// A label of 14 symbols: no call reserves more than its row of 178 cells, or a little over.
+#[test]
+fn a_short_label_reserves_little() {
+    let (row, most) = noted(|| encode_str("ƁPARCEL-123456").unwrap());
+    assert_eq!((row.len(), most), (178, 178));
+    let (symbols, most) = noted(|| read_row(&row).unwrap());
+    assert_eq!((symbols.len(), most), (14, 14));
+    let (drawn, most) = noted(|| draw_symbols(&symbols).unwrap());
+    assert_eq!((drawn.len(), most), (178, 178));
+    let (text, most) = noted(|| spell_symbols(&symbols).unwrap());
+    assert_eq!((text.len(), most), (15, 4 * 27));
+    let (sent, most) = noted(|| scan_symbols(&symbols).unwrap());
+    assert_eq!((sent.len(), most), (13, 26));
+    let (record, most) = noted(|| pack_row(&row).unwrap());
+    assert_eq!((record.len(), most), (25, 26));
+    let (cells, most) = noted(|| unpack_record(&record).unwrap());
+    assert_eq!((cells.len(), most), (178, 184));
+}
+
+/// A million elements: no call reserves more than the longest answer takes. Encode copies the text.
+#[test]
+fn no_input_reserves_more_than_the_limit() {
+    let million = vec![1; 1_000_000];
+    let (refusal, most) = noted(|| read_row(&million).unwrap_err());
+    assert_eq!((refusal.number(), most), (10, MOST_SYMBOLS));
+    let (refusal, most) = noted(|| draw_symbols(&million).unwrap_err());
+    assert_eq!((refusal.number(), most), (10, MOST_CELLS));
+    let (refusal, most) = noted(|| spell_symbols(&million).unwrap_err());
+    assert_eq!((refusal.number(), most), (10, 4 * MOST_CODE_POINTS));
+    let (refusal, most) = noted(|| scan_symbols(&million).unwrap_err());
+    assert_eq!((refusal.number(), most), (10, MOST_SCANNED));
+    let (refusal, most) = noted(|| pack_row(&million).unwrap_err());
+    assert_eq!((refusal.number(), most), (10, MOST_RECORD));
+    let (refusal, most) = noted(|| unpack_record(&million).unwrap_err());
+    assert_eq!((refusal.number(), most), (22, MOST_CELLS));
+}
+
+/// Records that declare far more than they have: what is reserved goes by what arrived.
+#[test]
+fn a_declared_size_reserves_nothing() {
+    for record in [[1, 255, 0], [2, 15, 160], [2, 255, 255]] {
+        let (refusal, most) = noted(|| unpack_record(&record).unwrap_err());
+        assert_eq!((refusal.number(), most), (22, 8));
+    }
+}
