@@ -151,7 +151,8 @@ slatmonief_answer slatmonief_scan(const uint8_t *symbols, size_t symbols_len, ui
 slatmonief_answer slatmonief_pack(const uint8_t *row, size_t row_len, uint8_t *record, size_t record_len);
 
 /* Unpack: a row record, of version 1 or 2 as pack writes it, to its cells. The count is believed
- * only once it agrees with record_len. Before version 1.4.0 of the library 2 was refused by 21.
+ * only once it agrees with record_len. Before version 1.4.0 of the library a record of version 2
+ * was refused by 21.
  * Accepted: second is the number of cells written.
  * Refused, in this order:
  *   number, when                                            second

@@ -43,6 +43,19 @@ static void show(const char *name, const uint8_t *capture, size_t length)
     printf("%s: %zu symbols, a scanner sends \"%.*s\"\n", name, n, (int)a.second, (const char *)bytes);
 }
 
+/* A customs label of more than 255 symbols, to its record and back: 300 pairs of digits in set C. */
+static void customs(void)
+{
+    static uint32_t label[601] = {0x106};
+    for (size_t i = 1; i < 601; i++) label[i] = '0' + i % 10;
+    slatmonief_answer a = slatmonief_encode(label, 601, row, sizeof row);
+    a = slatmonief_pack(row, 11 * (a.second + 1) + 13, record, sizeof record);
+    printf("customs label: a record of version %u and %zu bytes, ", (unsigned)record[0], a.second);
+    a = slatmonief_unpack(record, a.second, row, sizeof row);
+    a = slatmonief_read(row, a.second, symbols, sizeof symbols);
+    printf("read back to %zu symbols\n", a.second);
+}
+
 int main(void)
 {
     const uint32_t label[] = {0x181, 'A', 'I', 'M', 0x106, '1', '2', '3', '4'};
@@ -71,5 +84,6 @@ int main(void)
     const uint8_t most[] = {2, 4000 / 256, 4000 % 256, 0xD0}, huge[] = {2, 255, 255, 0xD0};
     show("declares 4,000 symbols", most, sizeof most);
     show("declares 65,535 symbols", huge, sizeof huge);
+    customs();
     return 0;
 }

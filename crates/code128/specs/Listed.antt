@@ -19,7 +19,7 @@ unfoldable pub withRow : Answer → List ℕ → Paper.Answer
 withRow (Done n) list = accept n (row (take n list))
 withRow (Refused r k) list = refuse (refusalNumber r) k
 
--- where there is something to draw: as many symbols stand in the list, and they are a symbol list
+-- where there is something to draw: n symbols stand in the list, and they are a symbol list
 unfoldable pub Drawable : Answer → List ℕ → Type 0
 Drawable (Done n) list = (n ≤ length list) × SymbolList (take n list)
 Drawable (Refused r k) list = Unit {0}

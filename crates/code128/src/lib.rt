@@ -26,9 +26,9 @@ pub const TERM: [u8; 2] = [1, 1];
 // The check of the first 4,000 numbers: a symbol list has no more. The START weighs 1, and the
 // number at place i weighs i.
 pub fn checksum_value(symbols: &[u8]) -> u8
-    ensures { λ r. ⌜ r ≡ check (take 4000 (now (symbols .entry))) ⌝ }
+    ensures { λ r. ⌜ r ≡ check (take most (now (symbols .entry))) ⌝ }
 {
-    let n = helpers::shorter(symbols.len(), 4000);
+    let n = helpers::shorter(symbols.len(), shapes::MOST);
     if n < 1 {
         return 0;
     }
@@ -137,7 +137,7 @@ fn list_symbols(text: &[u32], list: &mut [u8]) -> Answer
         Parsed::Stops(place) => tokens::stopped(text, place),
         Parsed::Retired(place) => Answer::Refused(Refusal::Retired, place),
         Parsed::Symbols(n) => {
-            if 4000 < n {
+            if shapes::MOST < n {
                 return Answer::Refused(Refusal::Symbols, n);
             }
             Answer::Done(n)
@@ -173,7 +173,7 @@ pub fn encode(text: &[u32], out: &mut [u8]) -> Answer
             draw_listed(found, &list, out)
         }
         _ => {
-            let mut list = [0u8; 4000];
+            let mut list = [0u8; shapes::MOST];
             let found = list_symbols(text, &mut list);
             draw_listed(found, &list, out)
         }

@@ -20,6 +20,10 @@ pub and-true : (a b : Bool) → (a && b) ≡ true → (a ≡ true) × (b ≡ tru
 and-true true b e = (refl, e)
 and-true false b e = true-not-false (sym e)
 
+pub and-false : (b : Bool) → (b && false) ≡ false
+and-false true = refl
+and-false false = refl
+
 pub truth : (b : Bool) → T b → b ≡ true
 truth true t = refl
 truth false t = absurd t

@@ -101,8 +101,8 @@ fn answer_by(text: &[u32], row: &mut [u8], out: &mut [u8]) -> usize
     write_row(n, &row[0..cells], out)
 }
 
-// Writes what a line's code points give: encode's answer, lent room for any row of so many. The row
-// is cleared before it is used, so a short text takes a short one.
+// Writes what a line's code points give: encode's answer. A text has no more symbols than code
+// points, and a row is cleared before it is used: so a short text takes a short one.
 pub(crate) fn answer_points(text: &[u32], out: &mut [u8]) -> usize
     requires { ⌜ length (now text) ≤ 2048 ⌝ }
     ensures { λ r. ⌜ Wrote (answerLine (encode (rowLength most) (now (text .entry))) ++ (10 ∷ [])) r (now (out .entry)) (now (out .exit)) ⌝ }

@@ -1275,8 +1275,8 @@ heads =
     (512 packedAfter 2 ∷ 2 ∷ 0 ∷ [] long 710) ∷ (1000 packedAfter 2 ∷ 3 ∷ 232 ∷ [] long 1381) ∷ (3999 packedAfter 2 ∷ 15 ∷ 159 ∷ [] long 5505) ∷
     (4000 packedAfter 2 ∷ 15 ∷ 160 ∷ [] long 5506) ∷ []
 
--- Records of version 2, by hand from request 4: rows of 256 and 257 symbols. At 256
--- there is no spare bit, at 257 there are five.
+-- Records of version 2, by hand from request 4: rows of 256 and 257 symbols. At 256 there is no
+-- spare bit, at 257 there are five.
 unfoldable pub secondPackings : List Example
 secondPackings =
     (replicate 2840 0 into 358 gives accept 358 (2 ∷ 1 ∷ 0 ∷ replicate 355 0)) ∷ (replicate 2840 1 into 358 gives accept 358 (2 ∷ 1 ∷ 0 ∷ replicate 355 255)) ∷

@@ -38,7 +38,7 @@ exchanged-cells u a i j li lj rest =
     rw (block-cells u a i li rest, block-cells u a j lj rest, over-cells u a j (getD u i 0) lj rest)
     (over-cells (set u j (getD u i 0)) (each-set Number u j (getD u i 0) a number) i (getD u j 0) (omega (arith, length-set u j (getD u i 0))) rest)
 
--- the check stays behind the list
+-- the check stays after the list
 exchanged-symbols : (s : List ℕ) (c i j : ℕ) → i < length s → j < length s → exchangedList i j (s ++ (c ∷ [])) ≡ exchangedList i j s ++ (c ∷ [])
 unfolding exchangedList
 exchanged-symbols s c i j li lj =

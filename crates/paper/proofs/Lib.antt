@@ -22,6 +22,7 @@ pub mod Exchanged
 pub mod Bytes
 pub mod Records
 pub mod Version1
+pub mod Version2
 pub mod Sums
 pub mod Results
 pub mod Retiring

@@ -10,8 +10,8 @@ use native.Mathlib.Decide.{decLe}
 use lib.Dec.{eqb}
 use lib.ListN.{length, getD, take, drop, length-take, length-drop, length-append}
 use borrow.Author.Tests.{leb-true, le-leb, lt-leb, eqb-true, eq-eqb}
-use Rattle.helpers.specs.Answers.{if_then_else_, Each, accept, _then_, ask, every, whole}
-use Rattle.paper.specs.Jobs.{possible, rowLength, symbolCount, possibleRow, isCell, ofRow, bytes, bytesFor, head, recordOf, pack, unbytes, allZero, recordLength, versionOf, headLength, countOf, countFits, storedCells, unpack}
+use Rattle.helpers.specs.Answers.{Each, accept, _then_, ask, every, whole}
+use Rattle.paper.specs.Jobs.{rowLength, symbolCount, possibleRow, isCell, ofRow, bytes, bytesFor, head, recordOf, pack, unbytes, allZero, recordLength, versionOf, headLength, countOf, countFits, storedCells, unpack}
 use Rattle.helpers.proofs.Answering.{and-true, then-accept, ask-passes, into-accept, into-room, whole-accept}
 use Rattle.paper.proofs.Lists.{cells-tested, cells-pass}
 use Rattle.paper.proofs.Lengths.{possible-count, possible-count-of, count-of-length, possible-row, possible-row-of}
@@ -54,16 +54,6 @@ pub pack-of : (room : ℕ) (cs : List ℕ) → possibleRow (length cs) ≡ true 
     → pack room cs ≡ accept (length (packedRow cs)) (packedRow cs)
 unfolding pack ofRow whole ask _then_
 pack-of room cs p a h = rw (p, cells-pass cs a, into-room room (length (packedRow cs)) (packedRow cs) h)
-
-pub pack-long : (room : ℕ) (cs : List ℕ) (n : ℕ) → 255 < n → n ≤ 4000 → length cs ≡ 11 * (n + 1) + 13 → Each (λ c. c ≤ 1) cs → 3 + bytesFor (length cs) ≤ room
-    → pack room cs ≡ accept (3 + bytesFor (length cs)) (2 ∷ (n / 256) ∷ (n % 256) ∷ bytes (bytesFor (length cs)) cs)
-unfolding recordOf head rowLength
-pack-long room cs n low high long a h =
-    let row = possible-row-of n (omega arith) high in
-    let same : length cs ≡ rowLength n = long in
-    let packed : packedRow cs ≡ 2 ∷ (n / 256) ∷ (n % 256) ∷ bytes (bytesFor (length cs)) cs = rw (ap symbolCount same ∙ row .1, lt-leb n 255 low) refl in
-    let size : length (packedRow cs) ≡ 3 + bytesFor (length cs) = rw packed (omega (arith, length-bytes (bytesFor (length cs)) cs)) in
-    rw (size, packed) at (pack-of room cs (rw same (row .0)) a (omega arith))
 
 pub pack-short : (room : ℕ) (cs : List ℕ) (n : ℕ) (rec : List ℕ) → pack room cs ≡ accept n rec → length rec ≤ 5506
 pack-short room cs n rec e =
@@ -120,7 +110,7 @@ unpack-of place rec n cs u fits =
       u .number,
     )
 
--- a count that fits: within the limit, and of the version that so many symbols are packed as
+-- a count that fits: within the limit, and of the version that a row of as many symbols is packed as
 pub record Counted (rec : List ℕ) : Type 0 where
   pub least : 1 ≤ countOf rec
   pub within : countOf rec ≤ 4000

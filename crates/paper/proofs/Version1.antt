@@ -3,20 +3,19 @@
 -- Assumes nothing.
 use mathlib.Core.Path.{_≡_, refl, sym, ap, _∙_}
 use mathlib.Core.Logic.{_≢_}
-use mathlib.Core.Bool.{Bool, true, false, _&&_, _||_}
-use mathlib.Core.List.{List, [], _∷_, _++_}
-use Prim.Native.Nat.{ℕ, suc, _+_, _*_, _/_, _%_, _<_, _≤_}
+use mathlib.Core.Bool.{Bool, true, false, _&&_}
+use mathlib.Core.List.{List}
+use Prim.Native.Nat.{ℕ, _+_, _<_, _≤_}
 use native.Mathlib.Omega.{arith}
 use native.Mathlib.Decide.{decLe}
 use lib.Dec.{leb, eqb}
 use lib.ListN.{length, getD}
-use borrow.Author.Tests.{leb-true, le-leb, lt-leb, eqb-true, eqb-false, eq-eqb, ne-eqb}
-use Rattle.helpers.specs.Answers.{if_then_else_, Answer, refuse, accept, _then_, ask, into}
-use Rattle.helpers.proofs.Answering.{and-true}
-use Rattle.paper.specs.Jobs.{most, possible, rowLength, symbolCount, possibleRow, ofRow, bytes, bytesFor, head, recordOf, pack, recordLength, versionOf, headLength, countOf, countFits, storedCells, unpack}
+use borrow.Author.Tests.{leb-true, le-leb, lt-leb, eqb-true, eqb-false, ne-eqb}
+use Rattle.helpers.specs.Answers.{if_then_else_, Answer, refuse, _then_, ask, into}
+use Rattle.helpers.proofs.Answering.{and-true, and-false}
+use Rattle.paper.specs.Jobs.{most, possible, rowLength, symbolCount, possibleRow, ofRow, bytesFor, head, recordOf, pack, recordLength, versionOf, headLength, countOf, countFits, storedCells, unpack}
 use Rattle.paper.specs.Version1.{oldPossible, oldRecord, oldPack, oldLength, oldUnpack}
-use Rattle.paper.proofs.Lengths.{possible-row}
-use Rattle.paper.proofs.Records.{pack-parts, head-short}
+use Rattle.paper.proofs.Records.{head-short}
 
 -- ---- up to 255 symbols
 
@@ -37,16 +36,12 @@ and-kept : (b : Bool) → (b && true) ≡ b
 and-kept true = refl
 and-kept false = refl
 
-and-lost : (b : Bool) → (b && false) ≡ false
-and-lost true = refl
-and-lost false = refl
-
 -- the counts that fit version 1 are those that were possible
 fits-1 : (n : ℕ) → (possible n && eqb 1 (getD (head n) 0 0)) ≡ oldPossible n
 unfolding possible most head oldPossible
 fits-1 n = elim (decLe n 255) [
   | yes h ↦ rw (le-leb n 255 h, le-leb n 4000 (omega arith)) (and-kept (leb 1 n && true))
-  | no h ↦ rw (lt-leb n 255 (omega arith)) (and-lost (leb 1 n && leb n 4000) ∙ sym (and-lost (leb 1 n)))
+  | no h ↦ rw (lt-leb n 255 (omega arith)) (and-false (leb 1 n && leb n 4000) ∙ sym (and-false (leb 1 n)))
 ]
 
 -- the tests of count and length of a record of version 1

@@ -95,8 +95,9 @@ pub data RecordLabel : Type 0 where
   _answers_ : List ℕ → Answer → RecordLabel
 
 infix 15 _answers_
--- by hand from document 01, "Unpack of", and request 4: in version 2 a record under 3 bytes, the
--- counts 0, 255, 256, 4,000 and 4,001, and 256 with its low byte first
+-- by hand from document 01, "Unpack of", and request 4: a record of one byte; versions 0 and 3; in
+-- version 1 the counts 0 and 255; in version 2 a record under 3 bytes, the counts 0, 255, 256, 4,000
+-- and 4,001, and 256 with its low byte first
 unfoldable pub unpackLabels : List RecordLabel
 unpackLabels =
     ((2 ∷ []) answers refuse 20 1) ∷

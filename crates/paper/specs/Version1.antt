@@ -1,7 +1,7 @@
 -- The row record before request 4, when version 1 was the only one: what was packed, and what a
 -- reader of that time, an old reader, answers.
--- Document 01, "Row record", and pack and unpack of "The seven jobs and their refusals". Assumes
--- nothing.
+-- Document 01, "Row record", and pack and unpack of "The seven jobs and their refusals". What it
+-- takes from Jobs did not move with the request. Assumes nothing.
 use Rattle.helpers.specs.Prelude.{ℕ, _+_, _-_, Bool, _&&_, List, _∷_, leb, eqb, length, getD, take, drop}
 use Rattle.helpers.specs.Answers.{if_then_else_, Answer, _then_, ask, every, whole, into}
 use Rattle.paper.specs.Jobs.{rowLength, symbolCount, isCell, bytes, bytesFor, unbytes, allZero}

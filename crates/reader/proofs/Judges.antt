@@ -11,7 +11,7 @@ use borrow.Author.Tests.{lt-leb, eq-eqb, ne-eqb}
 use Rattle.helpers.specs.Answers as Paper
 use Rattle.helpers.specs.Answers.{refuse, accept, Test, refuses, passes, _then_, ask, into, Gave}
 use Rattle.paper.specs.Iso15417.{check}
-use Rattle.paper.specs.Jobs.{blocksFrom, looked, read}
+use Rattle.paper.specs.Jobs.{most, blocksFrom, looked, read}
 use Rattle.helpers.proofs.Answering.{refuse-not-accept, accept-number, then-accept, then-passes, into-refuse, into-room}
 use Rattle.paper.proofs.Reading.{judged, read-size}
 use Rattle.helpers.specs.declared.Refusal.{Refusal}
@@ -21,15 +21,15 @@ use Rattle.helpers.specs.Numbers.{refusalNumber, numberOf, secondOf}
 use Rattle.helpers.specs.Contracts.{answers}
 use Rattle.shapes.specs.Vetted.{shaped}
 use Rattle.helpers.proofs.Gives.{stored, said-refused, said-done}
-use Rattle.shapes.proofs.Shaping.{row-refused, row-passed, row-proper}
+use Rattle.shapes.proofs.Shaping.{row-refused, row-passed}
 use Rattle.reader.specs.Parts.{walkOf, stopAsked, checkAsked, withFront, Judged}
 use Rattle.reader.proofs.Ends.{one-refuse}
 
 -- ---- the check
 
-module _ (l : List ℕ) (n : ℕ) (r : ℕ) (h : n ≤ 4000) (e : r ≡ check (take 4000 (take (n - 0) l))) where
+module _ (l : List ℕ) (n : ℕ) (r : ℕ) (h : n ≤ most) (e : r ≡ check (take most (take (n - 0) l))) where
   front : r ≡ check (take n l)
-  front = e ∙ rw (sub-zero n, take-all 4000 (take n l) (omega (arith, length-take n l))) refl
+  front = e ∙ rw (sub-zero n, take-all most (take n l) (omega (arith, h, length-take n l))) refl
 
   pub check-wrong : (a : Paper.Answer) → (getD l n 0 ≡ r → ⊥) → refuse 14 r ≡ (checkAsked l n then a)
   unfolding checkAsked ask _then_

@@ -143,7 +143,7 @@ fn stops(row: &[u8]) -> Answer
 // Holds the number after the first `n` of the list against their check; refuses 14 with the right
 // one.
 fn checks(list: &[u8], n: usize) -> Answer
-    requires { ⌜ (n < length (now list)) × (n ≤ 4000) ⌝ }
+    requires { ⌜ (n < length (now list)) × (n ≤ most) ⌝ }
     ensures { λ r. ⌜ answers r ≡ (checkAsked (now (list .entry)) n then accept n []) ⌝ }
 {
     let drawn = list[n];
@@ -201,6 +201,6 @@ pub fn read(row: &[u8], out: &mut [u8]) -> Answer
         let mut list = [0u8; 256];
         return read_by(row, &mut list, out);
     }
-    let mut list = [0u8; 4001];
+    let mut list = [0u8; shapes::MOST + 1];
     read_by(row, &mut list, out)
 }

@@ -2,6 +2,7 @@
 -- Assumes nothing.
 use Prim.Native.Nat.{ℕ, _+_, _*_, _/_, _<_, _≤_}
 use mathlib.Core.Path.{_≡_, refl}
+use mathlib.Core.Logic.{_⊎_}
 use mathlib.Core.Bool.{Bool, true, false, _&&_, _||_}
 use mathlib.Core.List.{List}
 use native.Mathlib.Omega.{arith}
@@ -11,7 +12,9 @@ use lib.ListN.{length, getD}
 use borrow.Author.Tests.{le-leb, lt-leb, ne-eqb}
 use Rattle.helpers.specs.Answers.{if_then_else_}
 use Rattle.paper.specs.Jobs.{most, possible, rowLength, bytesFor, head, recordLength, versionOf, headLength, countOf, countFits}
+use Rattle.helpers.proofs.Answering.{and-false}
 use Rattle.paper.proofs.Records.{count-fits}
+use Rattle.paper.proofs.Version2.{misfit}
 use Rattle.record.specs.Tested.{declared, lengthFor}
 
 -- a version that is 1 or 2, and one that is neither
@@ -40,10 +43,6 @@ length-needed n = omega arith
 
 -- ---- the count of a record
 
-and-false : (b : Bool) → (b && false) ≡ false
-and-false true = refl
-and-false false = refl
-
 module _ (rec : List ℕ) where
   -- version 1: the second byte, whatever it is
   pub declared-1 : versionOf rec ≡ 1 → 2 ≤ length rec → getD rec 1 0 < 256 → getD rec 1 0 ≡ declared rec
@@ -68,13 +67,9 @@ module _ (rec : List ℕ) where
       let n = countOf rec in
       rw (two, le-leb 3 (length rec) long, le-leb 1 n (omega arith), le-leb n 4000 high, lt-leb n 255 (omega arith)) refl
 
-  pub declared-small : versionOf rec ≡ 2 → countOf rec < 256 → 0 ≡ declared rec
-  unfolding declared countFits head
-  declared-small two h = rw (two, le-leb (countOf rec) 255 (omega arith), and-false (possible (countOf rec)), and-false (leb (headLength rec) (length rec))) refl
-
-  pub declared-above : 4000 < countOf rec → 0 ≡ declared rec
-  unfolding declared countFits possible most
-  declared-above h = rw (le-leb 1 (countOf rec) (omega arith), lt-leb (countOf rec) 4000 h, and-false (leb (headLength rec) (length rec))) refl
+  pub declared-misfit : versionOf rec ≡ 2 → (countOf rec ≤ 255) ⊎ (4000 < countOf rec) → 0 ≡ declared rec
+  unfolding declared
+  declared-misfit two h = rw (misfit rec two h, and-false (leb (headLength rec) (length rec))) refl
 
   -- a count is declared, or 0 is
   pub declared-some : leb (headLength rec) (length rec) ≡ true → countFits rec ≡ true → declared rec ≡ countOf rec

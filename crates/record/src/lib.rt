@@ -116,7 +116,7 @@ fn count(record: &[u8]) -> usize
     let low = helpers::wide(record[2]);
     let n = 256 * high + low;
     match n {
-        256..=4000 => n,
+        256..=shapes::MOST => n,
         _ => 0,
     }
 }

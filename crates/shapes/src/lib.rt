@@ -5,9 +5,16 @@ ghost use mathlib.Core.Path.{_≡_};
 ghost use lib.Dec.{leb};
 ghost use lib.ListN.{length, drop};
 ghost use Rattle.helpers.specs.Contracts.{firstNot, answers};
+ghost use Rattle.paper.specs.Jobs.{most};
 ghost use Rattle.shapes.specs.Vetted.{vetted, shaped};
 use helpers::Answer;
 use helpers::Refusal;
+
+// The limit: no symbol list is longer.
+pub const MOST: usize = 4000;
+
+// No row has more cells.
+pub const MOST_CELLS: usize = 11 * (MOST + 1) + 13;
 
 // The first place of `list` from `from` on whose number is above `most`, or the list's length.
 fn first_above(list: &[u8], from: usize, most: u8) -> usize
@@ -30,14 +37,14 @@ pub fn vet(symbols: &[u8]) -> Answer
 {
     let n = symbols.len();
     match n {
-        1..=4000 => vet_places(symbols),
+        1..=MOST => vet_places(symbols),
         _ => Answer::Refused(Refusal::Size, n),
     }
 }
 
 // Test 13: a START at place 0, and numbers up to 102 after it.
 fn vet_places(symbols: &[u8]) -> Answer
-    requires { ⌜ (1 ≤ length (now symbols)) × (length (now symbols) ≤ 4000) ⌝ }
+    requires { ⌜ (1 ≤ length (now symbols)) × (length (now symbols) ≤ most) ⌝ }
     ensures { λ r. ⌜ answers r ≡ vetted (now (symbols .entry)) ⌝ }
 {
     match symbols[0] {
@@ -59,7 +66,7 @@ pub fn shape(row: &[u8]) -> Answer
 {
     let len = row.len();
     match len {
-        35..=44024 => {
+        35..=MOST_CELLS => {
             let n = (len - 24) / 11;
             if len != 11 * n + 24 {
                 return Answer::Refused(Refusal::Size, len);

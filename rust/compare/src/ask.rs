@@ -35,8 +35,8 @@ fn symbols(code: &Code128) -> usize {
     format!("{code:?}").matches("Unit {").count()
 }
 
-/// The crate's row of a text of so many code points, or as many cells as the row has, if the crate
-/// is not asked to draw it. A text has no more symbols than code points.
+/// The crate's row of a text of this many code points, or as many cells as the row has, if the
+/// crate is not asked to draw it. A text has no more symbols than code points.
 fn drawn(code: &Code128, points: usize) -> Vec<u8> {
     match points {
         0..=MOST_DRAWN => code.encode(),

@@ -60,6 +60,15 @@ pub const SUBJECTS: [(&str, Subject); 13] = [
     ("record-law", Subject::RecordLaw),
 ];
 
+/// The calls with more than 255 symbols that are counted once they are accepted, and how a run
+/// names them.
+pub const LONG: [(Subject, &str); 4] = [
+    (Subject::Encode, "encode with more than 255 symbols"),
+    (Subject::Read, "read with more than 255 symbols"),
+    (Subject::Pack, "pack to version 2"),
+    (Subject::Unpack, "unpack from version 2"),
+];
+
 /// A difference that is not allowed.
 #[derive(Clone, Debug)]
 pub struct Fault {
@@ -95,8 +104,8 @@ pub struct Tally {
     pub drop_in: u64,
     /// Accepted inputs of encode that are too long for the crate to draw.
     pub undrawn: u64,
-    /// Accepted calls of encode with more than 255 symbols.
-    pub long: u64,
+    /// Accepted calls with more than 255 symbols, for each row of `LONG`.
+    pub long: [u64; LONG.len()],
     /// Calls of encode for each row of the list.
     pub listed: [u64; listed::LIST.len()],
 }
@@ -109,15 +118,9 @@ impl Tally {
         self.laws += other.laws;
         self.drop_in += other.drop_in;
         self.undrawn += other.undrawn;
-        self.long += other.long;
-        self.refused
-            .iter_mut()
-            .zip(other.refused)
-            .for_each(|(mine, theirs)| *mine += theirs);
-        self.listed
-            .iter_mut()
-            .zip(other.listed)
-            .for_each(|(mine, theirs)| *mine += theirs);
+        add_each(&mut self.refused, &other.refused);
+        add_each(&mut self.long, &other.long);
+        add_each(&mut self.listed, &other.listed);
     }
 
     /// The number of calls.
@@ -125,13 +128,36 @@ impl Tally {
         self.accepted + self.refused.iter().sum::<u64>()
     }
 
-    /// Counts one call by its answer number.
-    fn call(&mut self, number: u32) {
-        match number {
-            0 => self.accepted += 1,
-            _ => self.refused[number as usize] += 1,
+    /// Counts one call on an input of this length: by its answer number, and for `LONG`.
+    fn call(&mut self, subject: Subject, length: usize, (number, second): Answer) {
+        if number != 0 {
+            self.refused[number as usize] += 1;
+            return;
+        }
+        self.accepted += 1;
+        let long = symbols_of(subject, length, second) > 255;
+        let row = LONG.iter().position(|&(counted, _)| counted == subject);
+        if let Some(row) = row.filter(|_| long) {
+            self.long[row] += 1;
         }
     }
+}
+
+/// The number of symbols of an accepted call, from the length of its input and its second number.
+fn symbols_of(subject: Subject, length: usize, second: usize) -> usize {
+    match subject {
+        Subject::Spell | Subject::Scan => length,
+        Subject::Pack => (length - 24) / 11,
+        Subject::Unpack => (second - 24) / 11,
+        _ => second,
+    }
+}
+
+/// Adds to each count the one at its place.
+fn add_each(mine: &mut [u64], theirs: &[u64]) {
+    mine.iter_mut()
+        .zip(theirs)
+        .for_each(|(mine, theirs)| *mine += theirs);
 }
 
 /// An element of a lent buffer.
@@ -257,7 +283,7 @@ macro_rules! with_model {
                 let (subject, buffer) = (Subject::$subject, &self.$scratch);
                 return Err(fault(subject, wide(input), room, mark, said, answer, buffer));
             }
-            self.tally.call(answer.0);
+            self.tally.call(Subject::$subject, input.len(), answer);
             Ok(answer.0)
         }
     };
@@ -368,8 +394,7 @@ impl<'a> Worker<'a> {
                 &self.bytes,
             ));
         }
-        self.tally.call(answer.0);
-        self.tally.long += u64::from(answer.0 == 0 && answer.1 > 255);
+        self.tally.call(Subject::Encode, text.len(), answer);
         for row in listed::rows_of(text, crates, place, answer.0) {
             self.tally.listed[row as usize] += 1;
         }

@@ -260,7 +260,7 @@ fn limit_lengths() -> Vec<usize> {
 }
 
 /// Long labels in every style, most of them close to the limit, with rooms close to the length of
-/// the row; and copies that are refused for what stands in them far behind.
+/// the row; and copies that are refused for what stands near their end.
 pub fn limit(run: &Run) -> Result<Tally> {
     let lengths = limit_lengths();
     run.blocks(lengths.len() as u64, |worker, block| {

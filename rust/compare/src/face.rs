@@ -167,7 +167,8 @@ pub enum Plant {
     DrawnCheck,
     /// 4,000 symbols are too many for every job.
     LimitLess,
-    /// 4,001 symbols are not too many for encode, nor for draw, read and pack, which ask for room.
+    /// 4,001 symbols are not too many for encode, nor for draw, read, pack and unpack, which ask
+    /// for room.
     LimitMore,
     /// The check of encode with weights of one byte.
     ByteWeight,
@@ -358,7 +359,7 @@ impl Wrong {
     }
 
     /// A wrong answer of another job to n symbols, whose refusal for this length is 10, or which
-    /// needs so much room.
+    /// needs this much room.
     fn beside_length(&self, n: usize, length: usize, need: usize) -> Option<Answer> {
         match self.plant {
             Plant::LimitLess if n == LIMIT => Some((10, length)),
@@ -398,6 +399,9 @@ impl Wrong {
         };
         match self.plant {
             Plant::LimitLess if count == LIMIT => Some((22, 0)),
+            Plant::LimitMore if count == LIMIT + 1 && record.len() == model::bytes_of(2, count) => {
+                Some((5, model::cells(count)))
+            }
             Plant::LittleEndian => Some(True.unpack(&low_first(record), row)),
             Plant::SmallCount if count <= 255 => {
                 let first = [&[1], &record[2..]].concat();
@@ -521,7 +525,7 @@ fn low_first(record: &[u8]) -> Vec<u8> {
     other
 }
 
-/// Writes the crate's row of a text, if it has at most so many symbols and there is room.
+/// Writes the crate's row of a text, if it has at most this many symbols and there is room.
 fn written(text: &[u32], row: &mut [u8], most: usize) -> Option<Answer> {
     let cells = ask::row(text).filter(|cells| cells.len() <= model::cells(most))?;
     row.get_mut(..cells.len())?.copy_from_slice(&cells);

@@ -29,7 +29,7 @@ pub mod run;
 pub mod shrink;
 pub mod versions;
 
-use check::{Fault, Tally, Worker};
+use check::{Fault, Tally, Worker, LONG};
 use listed::LIST;
 use run::Run;
 
@@ -107,15 +107,19 @@ const REFUSALS: [usize; 17] = [
     1, 2, 3, 4, 5, 10, 11, 12, 13, 14, 15, 16, 19, 20, 21, 22, 23,
 ];
 
-/// What a whole run must come across and this tally has not: an accepted call, one of encode with
-/// more than 255 symbols, each refusal, each row of the list, the type with the crate's signatures.
+/// What a whole run must come across and this tally has not: an accepted call, each of the calls
+/// with more than 255 symbols, each refusal, each row of the list, the type with the crate's
+/// signatures.
 pub fn unmet(tally: &Tally) -> Vec<String> {
     let kinds = [
         ("an accepted call".into(), tally.accepted),
-        ("a row of more than 255 symbols".into(), tally.long),
         ("the type with the crate's signatures".into(), tally.drop_in),
     ]
     .into_iter();
+    let long = LONG
+        .iter()
+        .zip(tally.long)
+        .map(|((_, name), count)| (format!("an accepted call of {name}"), count));
     let refused = REFUSALS
         .iter()
         .map(|&number| (format!("refusal {number}"), tally.refused[number]));
@@ -123,6 +127,7 @@ pub fn unmet(tally: &Tally) -> Vec<String> {
         .iter()
         .map(|&(listed, name)| (format!("the row '{name}'"), tally.listed[listed as usize]));
     kinds
+        .chain(long)
         .chain(refused)
         .chain(listed)
         .filter(|(_, count)| *count == 0)

@@ -6,6 +6,7 @@ use crate::model::{self, refuse, Model, LIMIT, STOP, SWITCH};
 use crate::random::Random;
 use crate::run::{Result, Run};
 use std::collections::HashSet;
+use std::sync::Mutex;
 
 /// The rows of one and two symbols that the crate writes for some text.
 fn rows_of_crate() -> HashSet<Vec<u8>> {
@@ -84,7 +85,7 @@ const SHORT: [usize; 18] = [
 ];
 
 /// A list, and the blocks at which its row is damaged.
-type Damaged = (Vec<u8>, Vec<usize>);
+pub type Damaged = (Vec<u8>, Vec<usize>);
 
 /// The short rows, at every block with the check; and then the long ones, at some blocks.
 fn damaged(run: &Run, part: &str, long: &[(usize, Vec<usize>)]) -> Vec<Damaged> {
@@ -131,10 +132,15 @@ fn around_103(n: usize, from: usize) -> Vec<usize> {
         .collect()
 }
 
+/// The multiples of 103 at which a row within the limit has data: 103 to 3,914.
+fn multiples() -> impl Iterator<Item = usize> {
+    (103..LIMIT).step_by(103)
+}
+
 /// The long rows in which symbols are replaced: around every multiple of 103, or around the last of
-/// them. In a row of 3,914 symbols the last multiple is the check; in one of 3,915 it is data.
-fn replaced_long() -> [(usize, Vec<usize>); 6] {
-    [
+/// them; and for each multiple a row whose check is there and one whose last data symbol is there.
+fn replaced_long() -> Vec<(usize, Vec<usize>)> {
+    let around = [
         (310, 0),
         (1031, 0),
         (2061, 2059),
@@ -142,7 +148,9 @@ fn replaced_long() -> [(usize, Vec<usize>); 6] {
         (3915, 3810),
         (LIMIT, 0),
     ]
-    .map(|(n, from)| (n, around_103(n, from)))
+    .map(|(n, from)| (n, around_103(n, from)));
+    let ends = multiples().flat_map(|last| [last, last + 1].map(|n| (n, vec![last])));
+    around.into_iter().chain(ends).collect()
 }
 
 /// The numbers that replace a symbol: every one in a short row, and in the longest at the multiples
@@ -153,9 +161,31 @@ fn replacing(n: usize, block: usize) -> impl Iterator<Item = u8> {
     (0..106).filter(move |&number| every || number >= 102 || number % 12 == twelfth)
 }
 
+/// A symbol replaced by another: the number of symbols, the block, and whether read accepts it.
+type Replaced = (usize, usize, bool);
+
+/// What the part must meet at each multiple of 103: in the longest row an acceptance there and a
+/// refusal on each side; a refusal if the check is there, an acceptance if the last data symbol is.
+fn wanted() -> impl Iterator<Item = Replaced> {
+    multiples().flat_map(|place| {
+        [
+            (LIMIT, place - 1, false),
+            (LIMIT, place, true),
+            (LIMIT, place + 1, false),
+            (place, place, false),
+            (place + 1, place, true),
+        ]
+    })
+}
+
 /// One symbol replaced at this place. Read refuses, except for a data symbol at a multiple of 103
-/// that is replaced by a number up to 102.
-fn replaced_at(worker: &mut Worker, list: &[u8], block: usize) -> Result<()> {
+/// that is replaced by a number up to 102. What another number up to 102 gives is added to `met`.
+fn replaced_at(
+    worker: &mut Worker,
+    list: &[u8],
+    block: usize,
+    met: &Mutex<HashSet<Replaced>>,
+) -> Result<()> {
     let good = worker.model.row_of_list(list);
     let data = (1..list.len()).contains(&block);
     for number in replacing(list.len(), block) {
@@ -166,12 +196,12 @@ fn replaced_at(worker: &mut Worker, list: &[u8], block: usize) -> Result<()> {
         let accepted = worker.read(&row, list.len(), 0xA7)? == 0;
         if accepted != allowed {
             let expected = format!("block {block} replaced by {number}: accepted is {allowed}");
-            return Err(broken(
-                Subject::Count,
-                wide(&row),
-                expected,
-                format!("accepted is {accepted}"),
-            ));
+            let got = format!("accepted is {accepted}");
+            return Err(broken(Subject::Count, wide(&row), expected, got));
+        }
+        if row != good && number <= 102 {
+            let mut met = met.lock().expect("no thread panicked");
+            met.insert((list.len(), block, accepted));
         }
     }
     Ok(())
@@ -179,8 +209,28 @@ fn replaced_at(worker: &mut Worker, list: &[u8], block: usize) -> Result<()> {
 
 /// One symbol replaced: at every place of a short row, and around multiples of 103 in a long one.
 pub fn replaced(run: &Run) -> Result<Tally> {
-    let lists = damaged(run, "read-replaced", &replaced_long());
-    at_blocks(run, &lists, replaced_at)
+    replaced_among(run, &damaged(run, "read-replaced", &replaced_long()))
+}
+
+/// One symbol replaced at each of these blocks. It is a difference if what is wanted is not met.
+pub fn replaced_among(run: &Run, lists: &[Damaged]) -> Result<Tally> {
+    let met = Mutex::new(HashSet::new());
+    let tally = at_blocks(run, lists, |worker, list, block| {
+        replaced_at(worker, list, block, &met)
+    })?;
+    let met = met.into_inner().expect("no thread panicked");
+    let unmet: Vec<String> = wanted()
+        .filter(|wanted| !met.contains(wanted))
+        .map(|(n, block, accepted)| match accepted {
+            true => format!("block {block} of {n} accepted"),
+            false => format!("block {block} of {n} refused"),
+        })
+        .collect();
+    if !unmet.is_empty() {
+        let (wanted, got) = (unmet.join(", "), "not met".into());
+        return Err(broken(Subject::Count, vec![], wanted, got));
+    }
+    Ok(tally)
 }
 
 /// One cell changed at every place of these blocks, and of the stop after the check: flipped, or

@@ -1,6 +1,6 @@
 //! The lines that a run prints.
 use crate::ask::MOST_DRAWN;
-use crate::check::{Fault, Subject, Tally, SUBJECTS};
+use crate::check::{Fault, Subject, Tally, LONG, SUBJECTS};
 use crate::listed::LIST;
 
 /// The line of one part: how many inputs and calls, how many of these were accepted and refused by
@@ -39,20 +39,27 @@ pub fn listed_line(tally: &Tally) -> String {
     )
 }
 
-/// How many texts the type with the crate's signatures encoded, how many long rows were the
-/// crate's, and how many rows the crate did not draw.
+/// How many calls with more than 255 symbols were accepted.
+fn long_calls(tally: &Tally) -> String {
+    let calls: Vec<String> = LONG
+        .iter()
+        .zip(tally.long)
+        .map(|((_, name), count)| format!("{name}: {count}"))
+        .collect();
+    format!("accepted calls of {}", calls.join("; of "))
+}
+
+/// How many texts the type with the crate's signatures encoded, how many calls had more than 255
+/// symbols, and how many rows the crate did not draw.
 pub fn others_line(tally: &Tally) -> String {
-    let long = format!(
-        "rows of more than 255 symbols that are the crate's: {}",
-        tally.long
-    );
     let undrawn = format!(
         "texts of more than {MOST_DRAWN} symbols, counted and not drawn by the crate: {}",
         tally.undrawn
     );
     format!(
-        "texts by the type with the crate's signatures: {}; {long}; {undrawn}",
-        tally.drop_in
+        "texts by the type with the crate's signatures: {}; {}; {undrawn}",
+        tally.drop_in,
+        long_calls(tally)
     )
 }
 

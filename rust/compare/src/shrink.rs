@@ -9,7 +9,7 @@ const ELEMENTS: usize = 256;
 /// The most elements of an input that are removed and lowered one by one.
 const SINGLY: usize = 2000;
 
-/// A buffer length that is enough for every job on so many elements, or on fewer.
+/// A buffer length that is enough for every job on this many elements, or on fewer.
 fn ample(elements: usize) -> usize {
     cells(elements.min(LIMIT))
 }
@@ -122,7 +122,7 @@ impl Shrinker<'_, '_> {
         self.tries = tries;
     }
 
-    /// Removes so many elements at the end, after the first one, or after the first eleven.
+    /// Removes this many elements at the end, after the first one, or after the first eleven.
     fn cut(&mut self, size: usize) -> bool {
         let last = self.best.input.len().checked_sub(size);
         [last, Some(1), Some(11)]

@@ -95,9 +95,10 @@ fn each_its_own(worker: &mut Worker, random: &mut Random, n: usize) -> Result<()
 }
 
 /// Every count of both versions, a block for each high byte: in records of two, three and four
-/// bytes; and some of them in records of the right length for the version, and close to it.
+/// bytes; and version 2 in records of the right length for the count, and close to it. Unpack
+/// accepts exactly those of the right length and a count from 256 to the limit.
 pub fn counts(run: &Run) -> Result<Tally> {
-    run.blocks(256, |worker, high| {
+    let tally = run.blocks(256, |worker, high| {
         let high = high as u8;
         for length in [2, 3, 4] {
             zeros(worker, &[1, high], length, 60)?;
@@ -107,25 +108,31 @@ pub fn counts(run: &Run) -> Result<Tally> {
             zeros(worker, &[2, high, low], 3, 60)?;
             zeros(worker, &[2, high, low], 4, 60)?;
             let count = 256 * usize::from(high) + usize::from(low);
-            if at_an_edge(count) {
+            if tried_at_length(count) {
                 lengths_close(worker, count)?;
             }
         }
         Ok(())
-    })
+    })?;
+    let expected = LIMIT as u64 - 255;
+    if tally.accepted != expected {
+        let (right, got) = (format!("{expected} accepted"), tally.accepted.to_string());
+        return Err(broken(Subject::Count, vec![], right, got));
+    }
+    Ok(tally)
 }
 
-/// Whether a count is tried in records of the right length: up to 255, close to the limit, or at
-/// the edge of a byte.
-fn at_an_edge(count: usize) -> bool {
-    count <= 255 || count.abs_diff(LIMIT) <= 5 || matches!(count % 256, 0 | 1 | 127 | 128 | 255)
+/// Whether a count is tried in records of the right length and close to it: each one up to five
+/// above the limit, and then those at the edge of a byte.
+fn tried_at_length(count: usize) -> bool {
+    count <= LIMIT + 5 || matches!(count % 256, 0 | 1 | 127 | 128 | 255)
 }
 
-/// Compares unpack on a version 2 record of this count: of the length that version 2 needs, of the
-/// one that version 1 would need, one byte shorter and one byte longer.
+/// Compares unpack on a version 2 record of this count: of the right length for it, one byte
+/// shorter (the length that version 1 would need), one byte longer, and two bytes shorter.
 fn lengths_close(worker: &mut Worker, count: usize) -> Result<()> {
     let (room, right) = (cells(count.min(LIMIT)), bytes_of(2, count));
-    [right, bytes_of(1, count), right + 1, right - 2]
+    [right, right - 1, right + 1, right - 2]
         .into_iter()
         .try_for_each(|length| zeros(worker, &head_of(2, count), length, room))
 }

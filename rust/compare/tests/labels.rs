@@ -171,6 +171,29 @@ fn records_of_both_versions() {
     }
 }
 
+/// Of the calls with 255 and 256 symbols only the accepted ones with 256 are counted as long.
+#[test]
+fn calls_that_are_long() {
+    let model = Model::new(patterns());
+    let mut worker = Worker::new(&True, &model);
+    for (n, counts) in [(255, [0; 4]), (256, [1; 4])] {
+        let text = points(&format!("Ɓ{}", "A".repeat(n - 1)));
+        let row = model.row_of_list(&[&[104][..], &vec![33; n - 1]].concat());
+        let record = model.pack(&row, usize::MAX).front;
+        for less in [0, 1] {
+            let answers = [
+                worker.encode(&text, row.len() - less, 0xA7),
+                worker.read(&row, n - less, 0xA7),
+                worker.pack(&row, record.len() - less, 0xA7),
+                worker.unpack(&record, row.len() - less, 0xA7),
+            ];
+            let numbers = answers.map(|answer| answer.expect("no difference"));
+            assert_eq!(numbers, [5 * less as u32; 4]);
+        }
+        assert_eq!(worker.tally.long, counts);
+    }
+}
+
 /// The cell at a place of a row of n symbols that stands for any row of that length.
 fn cell(n: usize, place: usize) -> u8 {
     ((place * place + 7 * n * place) / 13 + place / 3) as u8 % 2

@@ -5,6 +5,7 @@ use compare::check::{Fault, Subject, Tally};
 use compare::exchanged;
 use compare::face::{Face, Plant, True, Wrong};
 use compare::model::{cells, Model, LIMIT};
+use compare::read;
 use compare::run::Run;
 use compare::{report, unmet, PARTS};
 use std::process::Command;
@@ -132,6 +133,40 @@ fn exchanged_symbols_answered_wrongly() {
             "{plant:?}: {expected} and {got}"
         );
     }
+}
+
+/// A replaced symbol that the part must meet and does not is named.
+#[test]
+fn replacements_that_did_not_occur() {
+    let model = Model::new(ask::patterns());
+    let run = Run {
+        face: &True,
+        model: &model,
+        seed: 1,
+        random: 0,
+        threads: 2,
+    };
+    let rows = [(LIMIT, vec![102, 103]), (103, vec![103]), (104, vec![103])];
+    let list = |n| [&[103][..], &vec![0; n - 1]].concat();
+    let lists = rows.map(|(n, blocks)| (list(n), blocks));
+    let fault = read::replaced_among(&run, &lists).expect_err("not all can be met");
+    let unmet: Vec<&str> = fault.expected.split(", ").collect();
+    assert_eq!(
+        (fault.subject, unmet.len(), fault.got.as_str()),
+        (Subject::Count, 1 + 37 * 5, "not met")
+    );
+    assert_eq!(
+        unmet[..6],
+        [
+            "block 104 of 4000 refused",
+            "block 205 of 4000 refused",
+            "block 206 of 4000 accepted",
+            "block 207 of 4000 refused",
+            "block 206 of 206 refused",
+            "block 206 of 207 accepted"
+        ]
+    );
+    assert_eq!(unmet[185], "block 3914 of 3915 accepted");
 }
 
 /// An exchange that the part must meet and does not is named.
@@ -489,8 +524,8 @@ fn a_wrong_number_of_symbols_needed() {
     );
 }
 
-/// A limit that is one off, found in every job by the smallest input that shows it: how many
-/// elements it has, and both answers.
+/// A limit that is one off, found in encode, draw, read and pack by the smallest input that shows
+/// it: how many elements it has, and both answers.
 const LIMIT_OFF: [(Plant, &str, Subject, usize, &str, &str); 7] = [
     (
         Plant::LimitLess,
@@ -560,6 +595,21 @@ fn a_limit_that_is_one_off() {
             "{plant:?} {part}: {expected} and {got}"
         );
     }
+}
+
+/// A record of 4,001 symbols, of the right length for them, that unpack does not refuse by 22.
+#[test]
+fn a_record_above_the_limit() {
+    let (subject, input, room, expected, got) = found(Plant::LimitMore, "records-versions");
+    assert_eq!((subject, room), (Subject::Unpack, 0));
+    assert_eq!(input, [&[2, 15, 161][..], &[0; 5505]].concat());
+    assert_eq!(
+        (expected.as_str(), got.as_str()),
+        (
+            "22 0, the 0 elements of the buffer as lent",
+            "5 44035, the 0 elements of the buffer as lent"
+        )
+    );
 }
 
 #[test]
@@ -659,7 +709,7 @@ fn a_part_with_nothing_in_it() {
 fn kinds_that_did_not_occur() {
     let mut tally = Tally {
         accepted: 1,
-        long: 1,
+        long: [1; 4],
         drop_in: 1,
         refused: [1; 24],
         listed: [1; 8],
@@ -671,7 +721,17 @@ fn kinds_that_did_not_occur() {
         unmet(&tally),
         ["refusal 23", "the row '÷ for DEL: number 95 in set B'"]
     );
-    assert_eq!(unmet(&Tally::default()).len(), 3 + 17 + 8);
+    (tally.refused, tally.listed, tally.long) = ([1; 24], [1; 8], [0; 4]);
+    assert_eq!(
+        unmet(&tally),
+        [
+            "an accepted call of encode with more than 255 symbols",
+            "an accepted call of read with more than 255 symbols",
+            "an accepted call of pack to version 2",
+            "an accepted call of unpack from version 2"
+        ]
+    );
+    assert_eq!(unmet(&Tally::default()).len(), 2 + 4 + 17 + 8);
 }
 
 /// The report of a claim about a whole part says that its input was not made smaller.

@@ -24,7 +24,8 @@
 //!   not fit: the second number of refusal 5 is the length needed, 11(n+1)+13 cells for a row.
 //! - [`encode_str`], [`draw_symbols`], [`read_row`], [`spell_symbols`], [`scan_symbols`],
 //!   [`pack_row`] and [`unpack_record`] do the same and return a new `Vec` or `String`. What they
-//!   reserve for it goes by the length of the input, and never exceeds those sizes.
+//!   reserve for it goes by the length of the input, and never exceeds those sizes, in elements;
+//!   `spell_symbols` then makes a `String` of them.
 //! - [`sym::code128::Code128`] has the signatures of the crate barcoders. A program that uses that
 //!   crate changes one `use` line.
 //!
@@ -205,7 +206,7 @@ job! {
     /// Reads a row back to its symbol list; returns n, the number of symbols.
     ///
     /// It accepts exactly the rows that [`draw`] writes: those that [`encode`] writes, and those of
-    /// labels with FNC2, which encode wrote before version 1.3.0.
+    /// labels with FNC2, which encode refuses since version 1.3.0.
     ///
     /// # Refusals, in this order
     ///
@@ -345,8 +346,8 @@ job! {
     /// Unpacks a row record to the cells of its row; returns the number of cells written.
     ///
     /// The record is of version 1 or 2, as [`pack`] writes it. Its count, the n that it declares,
-    /// is believed only once it agrees with the length. Before version 1.4.0 of this crate 2 was
-    /// refused by 21.
+    /// is believed only once it agrees with the length. Before version 1.4.0 of this crate a record
+    /// of version 2 was refused by 21.
     ///
     /// # Refusals, in this order
     ///

@@ -1,11 +1,12 @@
 -- `code128::checksum_value` meets its contract: a loop that sums number times weight.
 -- Assumes nothing.
 use Prim.Native.Nat.{ℕ, _-_, _*_, _<_, _≤_, min}
-use mathlib.Core.Path.{_≡_, sym, _∙_}
+use mathlib.Core.Path.{_≡_, sym}
 use native.Mathlib.Omega.{arith}
 use borrow.Author.Needs.{needs}
 use lib.ListN.{length, getD, take, length-take}
 use lib.Seq.{getD-take}
+use Rattle.paper.specs.Jobs.{most}
 use Rattle.code128.proofs.Sums.{Summing, summing-begin, summing-turn, summing-end, check-of-none, small}
 use Rattle.code128.proofs.checksum_value.Statement.{statement}
 use Rattle.code128.proofs.checksum_value.Tie as tie
@@ -20,6 +21,7 @@ shorter-requires : tie.Need-shorter-requires Inv-loop μ-loop
 shorter-requires c κs = search needs
 
 returns : tie.Need-returns Inv-loop μ-loop
+unfolding most
 returns c = sym (check-of-none _ (omega (arith, length-take 4000 (c .before .before .before .args .symbols .now))))
 
 shared-slice-read-sum : tie.Need-shared-slice-read-sum Inv-loop μ-loop
@@ -81,6 +83,7 @@ cast-result : tie.Need-cast-result Inv-loop μ-loop
 cast-result c = search needs
 
 returns-2 : tie.Need-returns-2 Inv-loop μ-loop
+unfolding most
 returns-2 c = summing-end (c .before .loop .inv .3) (omega (arith, length-take 4000 (c .before .before .before .before .before .before .args .symbols .now)))
 
 pub checksum-value-spec : {M : Type 1} → statement M

@@ -2,10 +2,11 @@
 -- Assumes nothing.
 use Prim.Native.Nat.{_+_, _*_}
 use mathlib.Core.Path.{_≡_, _∙_}
+use mathlib.Core.Logic.{inl, inr}
 use native.Mathlib.Omega.{arith}
 use borrow.Author.Needs.{needs}
 use Rattle.paper.specs.Jobs.{versionOf, countOf}
-use Rattle.record.proofs.Counts.{count-2, declared-1, declared-short, declared-2, declared-small, declared-above}
+use Rattle.record.proofs.Counts.{count-2, declared-1, declared-short, declared-2, declared-misfit}
 use Rattle.record.proofs.count.Statement.{statement}
 use Rattle.record.proofs.count.Tie as tie
 
@@ -52,10 +53,10 @@ returns-3 c =
     e ∙ declared-2 _ (version-2 (c .before .before)) (omega arith) (omega (arith, e)) (omega (arith, e))
 
 returns-4 : tie.Need-returns-4
-returns-4 c = declared-small _ (version-2 (c .before)) (omega (arith, counted (c .before)))
+returns-4 c = declared-misfit _ (version-2 (c .before)) (inl (omega (arith, counted (c .before))))
 
 returns-5 : tie.Need-returns-5
-returns-5 c = declared-above _ (omega (arith, counted (c .before .before)))
+returns-5 c = declared-misfit _ (version-2 (c .before .before)) (inr (omega (arith, counted (c .before .before))))
 
 pub count-spec : {M : Type 1} → statement M
 count-spec =

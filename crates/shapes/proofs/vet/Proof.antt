@@ -5,11 +5,13 @@ use native.Mathlib.Omega.{arith}
 use borrow.Author.Needs.{needs}
 use Rattle.helpers.specs.Numbers.{refusalNumber}
 use Rattle.helpers.specs.Contracts.{answers}
+use Rattle.paper.specs.Jobs.{most}
 use Rattle.shapes.proofs.Vets.{vetted-size}
 use Rattle.shapes.proofs.vet.Statement.{statement}
 use Rattle.shapes.proofs.vet.Tie as tie
 
 vet-places-requires : tie.Need-vet-places-requires
+unfolding most
 vet-places-requires c κs = search needs
 
 returns : tie.Need-returns
