@@ -18,7 +18,7 @@ use Rattle.paper.proofs.Flipped.{flipped-exactly, flipped-refused}
 use Rattle.paper.proofs.Exchanged.{exchanged-exactly, neighbours-refused, exchanged-alike}
 use Rattle.paper.proofs.Records.{unpack-size, unpack-of-pack, pack-of-unpack, one-record}
 use Rattle.paper.proofs.Version1.{pack-as-before, unpack-as-before, old-readers}
-use Rattle.paper.proofs.Version2.{pack-long, unpack-none, unpack-long}
+use Rattle.paper.proofs.Version2.{pack-long, pack-none, unpack-under, unpack-none, unpack-long}
 use Rattle.paper.proofs.Sums.{sum-fits}
 
 pub promises : Promises
@@ -96,6 +96,8 @@ promises = record {
   pack-as-before = pack-as-before;
   unpack-as-before = unpack-as-before;
   pack-long = pack-long;
+  pack-none = pack-none;
+  unpack-under = unpack-under;
   unpack-none = unpack-none;
   unpack-long = unpack-long;
   old-readers = old-readers;

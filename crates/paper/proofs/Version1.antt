@@ -1,5 +1,5 @@
--- The row record beside that of before request 4: rows of up to 255 symbols and records of version
--- 1 are answered as they were, and old readers refuse those of version 2.
+-- The row record beside that of before request 4: rows of up to 255 symbols and records of every
+-- version but 2 are answered as they were, and old readers refuse those of version 2.
 -- Assumes nothing.
 use mathlib.Core.Path.{_≡_, refl, sym, ap, _∙_}
 use mathlib.Core.Logic.{_≢_}

@@ -215,7 +215,7 @@ recordLength n = length (head n) + bytesFor (rowLength n)
 unfoldable pub versionOf : List ℕ → ℕ
 versionOf rec = getD rec 0 0
 
--- the length of its head: 2 bytes in version 1, and 3 in version 2, whose count has two
+-- the length of its head: 2 bytes in version 1, else 3, as in version 2, whose count has two
 unfoldable pub headLength : List ℕ → ℕ
 headLength rec = if eqb (versionOf rec) 1 then 2 else 3
 
@@ -223,8 +223,8 @@ headLength rec = if eqb (versionOf rec) 1 then 2 else 3
 unfoldable pub countOf : List ℕ → ℕ
 countOf rec = if eqb (versionOf rec) 1 then getD rec 1 0 else 256 * getD rec 1 0 + getD rec 2 0
 
--- does a record of its version have this count? Version 1 has 1 to 255, and version 2 has 256 up to
--- the limit: "A version 2 record with a count of 255 or less is refused".
+-- is its count one that its version has? Version 1 has 1 to 255, and version 2 has 256 up to the
+-- limit: "A version 2 record with a count of 255 or less is refused".
 unfoldable pub countFits : List ℕ → Bool
 countFits rec = possible (countOf rec) && eqb (versionOf rec) (getD (head (countOf rec)) 0 0)
 

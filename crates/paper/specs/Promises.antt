@@ -1,7 +1,7 @@
 -- All that is promised of Code 128, in one record; `promises` of proofs/Promises.antt is its proof.
 -- Assumes nothing.
 use Rattle.helpers.specs.Prelude.{ℕ, _+_, _-_, _*_, _/_, _%_, _<_, _≤_, _≡_, _↔_, _≢_, _⊎_, false, some, List, [], _∷_, _++_, eqb, length, getD, take, drop}
-use Rattle.helpers.specs.Answers.{Each, refuse, accept, Accepted, _then_, ask, whole, into}
+use Rattle.helpers.specs.Answers.{Each, refuse, accept, Accepted, _then_, ask, every, whole, into}
 use Rattle.helpers.specs.Owes.{Owes}
 use Rattle.paper.specs.Iso15417.{points, Set, before, A, B, C, is, worn, unknown, barCells, ascii, SHIFT, cells, count, weighed, check, row, pattern, found, column, startOf, digits, other, scanned}
 use Rattle.paper.specs.Crate.{À, Ɓ, Ć, Ź, ź, Ż, ż, Ž, ÷, stops, symbols, parse, letters, spans, numberIn, pointIn}
@@ -9,7 +9,7 @@ use Rattle.paper.specs.Settle.{settle, inside, occurrences, withoutŹ}
 use Rattle.paper.specs.Chars.{chars, entry}
 use Rattle.paper.specs.Rules.{PatternRule, NoPattern, spot, differences, message, writes, sends, switches, shifts}
 use Rattle.paper.specs.Damage.{blocksOf, blockAt, redrawn, verdict, flipped, flippedVerdict, exchanged, exchangedList, exchangedVerdict}
-use Rattle.paper.specs.Jobs.{SymbolList, most, rowLength, encodeWithFNC2, encode, draw, read, spell, scan, bytes, bytesFor, pack, unbytes, allZero, versionOf, headLength, countOf, unpack}
+use Rattle.paper.specs.Jobs.{SymbolList, most, rowLength, encodeWithFNC2, encode, draw, read, spell, scan, isCell, bytes, bytesFor, pack, unbytes, allZero, versionOf, headLength, countOf, unpack}
 use Rattle.paper.specs.Version1.{oldPack, oldUnpack}
 use Rattle.paper.specs.Shift.{unshifted, scanUnshifted, setAfter, AOrB, hasShift, NoTextFirst}
 use Rattle.paper.specs.Labels.{answered, expected, starred, shiftAnswered, shiftExpected, shiftLabels, retiredLabels, unpackAnswered, unpackExpected, unpackLabels}
@@ -179,20 +179,25 @@ pub record Promises : Type 0 where
   -- cells are equal.
   pub one-record : (room room′ : ℕ) (rec rec′ : List ℕ) → Each (λ b. b < 256) rec → Each (λ b. b < 256) rec′ → (n n′ : ℕ) (cs : List ℕ)
       → unpack room rec ≡ accept n cs → unpack room′ rec′ ≡ accept n′ cs → rec ≡ rec′
-  -- A row of up to 255 symbols, 2,829 cells, is packed as before the request, byte for byte, and
-  -- every record but those of version 2 is answered as before, at every length of the buffer.
+  -- Every list of up to 2,829 numbers, the cells of 255 symbols, is answered by pack as before the
+  -- request, byte for byte, and every record but those of version 2 by unpack, at every length of
+  -- the buffer.
   pub pack-as-before : (room : ℕ) (cs : List ℕ) → length cs ≤ 2829 → pack room cs ≡ oldPack room cs
   pub unpack-as-before : (room : ℕ) (rec : List ℕ) → versionOf rec ≢ 2 → unpack room rec ≡ oldUnpack room rec
-  -- Every row of 256 to 4,000 symbols is packed as version 2, or 5 is answered: the count in two
-  -- bytes, the high one first, and the cells, eight to a byte.
-  pub pack-long : (room : ℕ) (cs : List ℕ) (n : ℕ) → 255 < n → n ≤ 4000 → length cs ≡ rowLength n → Each (λ c. c ≤ 1) cs
-      → pack room cs ≡ into room (whole (2 ∷ (n / 256) ∷ (n % 256) ∷ bytes (bytesFor (length cs)) cs))
-  -- What unpack answers to a record of version 2. Under 3 bytes, or with a count up to 255 or above
-  -- 4,000: 22 with 0.
-  pub unpack-none : (room : ℕ) (rec : List ℕ) → 2 ≤ length rec → versionOf rec ≡ 2 → (length rec < 3) ⊎ ((countOf rec ≤ 255) ⊎ (4000 < countOf rec))
-      → unpack room rec ≡ refuse 22 0
-  -- With any other count n: 22 with the length that n symbols need, 23, or the cells, for which
-  -- there is room or 5.
+  -- What pack answers to a list as long as a row of 256 to 4,000 symbols: 11 at the first number
+  -- that is no cell; else version 2, the count in two bytes, the high one first, and the cells,
+  -- eight to a byte; or 5, if there is no room for it. And to a list as long as no row: 10.
+  pub pack-long : (room : ℕ) (cs : List ℕ) (n : ℕ) → 255 < n → n ≤ 4000 → length cs ≡ rowLength n
+      → pack room cs ≡ into room (every isCell 11 0 cs then whole (2 ∷ (n / 256) ∷ (n % 256) ∷ bytes (bytesFor (length cs)) cs))
+  pub pack-none : (room : ℕ) (cs : List ℕ) → ((n : ℕ) → 1 ≤ n → n ≤ 4000 → length cs ≢ rowLength n) → pack room cs ≡ refuse 10 (length cs)
+  -- What unpack answers to a record of version 2. Under 2 bytes, as for any version: 20.
+  pub unpack-under : (room : ℕ) (rec : List ℕ) → length rec < 2 → unpack room rec ≡ refuse 20 (length rec)
+  -- Of 2 bytes, or with a count n up to 255 or above 4,000: 22 with 0.
+  pub unpack-none : (room : ℕ) (rec : List ℕ) (n : ℕ) → 2 ≤ length rec → versionOf rec ≡ 2 → n ≡ 256 * getD rec 1 0 + getD rec 2 0
+      → (length rec < 3) ⊎ ((n ≤ 255) ⊎ (4000 < n)) → unpack room rec ≡ refuse 22 0
+  -- With any other count n, in this order: 22 with the length that n symbols need, if the record has
+  -- another; 23 with the place of its last byte, if a spare bit is set; the cells, or 5 if there is
+  -- no room for them.
   pub unpack-long : (room : ℕ) (rec : List ℕ) (n : ℕ) → 3 ≤ length rec → versionOf rec ≡ 2 → n ≡ 256 * getD rec 1 0 + getD rec 2 0 → 255 < n → n ≤ 4000
       → unpack room rec
       ≡ into room
@@ -201,5 +206,6 @@ pub record Promises : Type 0 where
       whole (take (rowLength n) (unbytes (drop 3 rec))))
   -- Old readers answer 21, with 2, to every record of version 2 of two bytes or more.
   pub old-readers : (room : ℕ) (rec : List ℕ) → 2 ≤ length rec → versionOf rec ≡ 2 → oldUnpack room rec ≡ refuse 21 2
-  -- Records, by hand from document 01 and request 4: what unpack answers to each.
+  -- Records, by hand from document 01 and request 4: what unpack answers to each, at a buffer that
+  -- takes any row.
   pub unpack-labels : unpackAnswered unpackLabels ≡ unpackExpected unpackLabels

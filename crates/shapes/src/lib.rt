@@ -5,7 +5,7 @@ ghost use mathlib.Core.Path.{_≡_};
 ghost use lib.Dec.{leb};
 ghost use lib.ListN.{length, drop};
 ghost use Rattle.helpers.specs.Contracts.{firstNot, answers};
-ghost use Rattle.paper.specs.Jobs.{most};
+ghost use Rattle.paper.specs.Jobs as Paper;
 ghost use Rattle.shapes.specs.Vetted.{vetted, shaped};
 use helpers::Answer;
 use helpers::Refusal;
@@ -44,7 +44,7 @@ pub fn vet(symbols: &[u8]) -> Answer
 
 // Test 13: a START at place 0, and numbers up to 102 after it.
 fn vet_places(symbols: &[u8]) -> Answer
-    requires { ⌜ (1 ≤ length (now symbols)) × (length (now symbols) ≤ most) ⌝ }
+    requires { ⌜ (1 ≤ length (now symbols)) × (length (now symbols) ≤ Paper.most) ⌝ }
     ensures { λ r. ⌜ answers r ≡ vetted (now (symbols .entry)) ⌝ }
 {
     match symbols[0] {
