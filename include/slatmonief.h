@@ -1,5 +1,6 @@
-/* Code 128 rows: written, read, spelled, scanned, packed and unpacked. Each call is proved to do
- * what this file says, for every input.
+/* Code 128 rows: written, read, spelled, scanned, packed and unpacked. Each of the seven calls is
+ * proved to do what this file says, for every input. What is plain C here, the names of the
+ * refusals, slatmonief_words and SLATMONIEF_CELLS, is tested.
  *
  * Link with libslatmonief.a (x86-64 Linux). C99 and later, and C++.
  *
@@ -10,16 +11,26 @@
  *
  * Answers. Every call returns two numbers by value:
  *   - number is 0 where the call is accepted, and else the number of the refusal;
- *   - second depends on number: the comment of each call says what it is after a 0 and, in a list,
- *     after each refusal.
+ *   - second depends on number. The comment of each call has a list of what it is after each
+ *     refusal. After a 0 it is:
+ *       call     from          to            second after a 0
+ *       encode   code points   cells         n, the symbols; SLATMONIEF_CELLS(n) cells are written
+ *       draw     symbols       cells         n, the symbols; SLATMONIEF_CELLS(n) cells are written
+ *       read     cells         symbols       n, the symbols written
+ *       spell    symbols       code points   the code points written
+ *       scan     symbols       bytes         the bytes written
+ *       pack     cells         a record      the bytes written
+ *       unpack   a record      cells         the cells written
+ *     So the length of a row is SLATMONIEF_CELLS(second) after encode and draw, and second itself
+ *     after unpack.
  *
  * Buffers. An accepted call fills the front of the lent buffer and leaves every element after that
  * as it was. A refused call leaves the whole buffer as it was. No call reserves memory, keeps a
  * pointer or has state, so any number of threads may call at once, each with a buffer of its own.
  *
  * What the caller has to keep, since C cannot check it:
- *   - each pointer is valid for as many elements as the length beside it says, and is not NULL,
- *     even where the length is 0;
+ *   - each pointer is valid for as many elements as the length beside it says. Where the length is
+ *     0 any pointer will do, NULL too, as an empty std::vector gives it: it is not followed;
  *   - input and output do not overlap;
  *   - a length counts elements, not bytes: text_len is a number of 32-bit code points.
  */
@@ -28,6 +39,11 @@
 
 #include <stddef.h>
 #include <stdint.h>
+
+#define SLATMONIEF_VERSION "1.5.0"
+
+/* The cells of the row of n symbols: the length of a row after encode and draw. */
+#define SLATMONIEF_CELLS(n) (11 * ((n) + 1) + 13)
 
 /* Buffers of these lengths are never too short: for the cells of a row, the symbols of a list, the
  * code points that spell writes, the bytes that scan writes, and the bytes of a row record. Such
@@ -50,12 +66,68 @@ typedef struct {
     size_t second;
 } slatmonief_answer;
 
+/* What number can be. The lists below say when, and what second is then. */
+enum slatmonief_number {
+    SLATMONIEF_ACCEPTED = 0,
+    SLATMONIEF_NO_SCALAR = 1,
+    SLATMONIEF_TEXT_TOO_SHORT = 2,
+    SLATMONIEF_PARSING_STOPS = 3,
+    SLATMONIEF_TOO_MANY_SYMBOLS = 4,
+    SLATMONIEF_BUFFER_TOO_SHORT = 5,
+    SLATMONIEF_NO_SUCH_LENGTH = 10,
+    SLATMONIEF_NO_CELL = 11,
+    SLATMONIEF_NO_PATTERN_EVEN = 12,
+    SLATMONIEF_WRONG_SYMBOL = 13,
+    SLATMONIEF_WRONG_CHECK = 14,
+    SLATMONIEF_WRONG_STOP = 15,
+    SLATMONIEF_NO_PATTERN_ODD = 16,
+    SLATMONIEF_RETIRED = 19,
+    SLATMONIEF_NO_HEAD = 20,
+    SLATMONIEF_NO_SUCH_VERSION = 21,
+    SLATMONIEF_WRONG_COUNT = 22,
+    SLATMONIEF_SPARE_BIT = 23
+};
+
+/* The number of an answer in words: a constant string in ASCII for every number, and "unknown
+ * number" for one that no call gives. */
+static inline const char *slatmonief_words(uint32_t number)
+{
+    switch (number) {
+    case SLATMONIEF_ACCEPTED: return "accepted";
+    case SLATMONIEF_NO_SCALAR: return "a value is no Unicode scalar value";
+    case SLATMONIEF_TEXT_TOO_SHORT: return "the text has fewer than two UTF-8 bytes";
+    case SLATMONIEF_PARSING_STOPS:
+        return "parsing stops: no START, no number in the set, or half a pair of digits";
+    case SLATMONIEF_TOO_MANY_SYMBOLS: return "more than 4000 symbols are needed";
+    case SLATMONIEF_BUFFER_TOO_SHORT: return "the buffer is too short";
+    case SLATMONIEF_NO_SUCH_LENGTH: return "no row or symbol list has this length";
+    case SLATMONIEF_NO_CELL: return "a cell is neither 0 nor 1";
+    case SLATMONIEF_NO_PATTERN_EVEN:
+        return "a block is none of the 106 patterns and has an even number of bar cells: print "
+               "again";
+    case SLATMONIEF_WRONG_SYMBOL: return "a number stands where it may not";
+    case SLATMONIEF_WRONG_CHECK: return "the check is wrong";
+    case SLATMONIEF_WRONG_STOP: return "a cell is not the stop's";
+    case SLATMONIEF_NO_PATTERN_ODD:
+        return "a block is none of the 106 patterns and has an odd number of bar cells, as one "
+               "worn cell can leave it: photograph again";
+    case SLATMONIEF_RETIRED: return "FNC2 (U+017A) is retired";
+    case SLATMONIEF_NO_HEAD: return "the record has no head";
+    case SLATMONIEF_NO_SUCH_VERSION: return "the record's version is neither 1 nor 2";
+    case SLATMONIEF_WRONG_COUNT:
+        return "the record's count is missing, none of its version, or not that of its length";
+    case SLATMONIEF_SPARE_BIT: return "a spare bit is set in the last byte";
+    default: return "unknown number";
+    }
+}
+
 /* Encode: code points to a row. The first code point names the character set: U+00C0 for A, U+0181
  * for B, U+0106 for C. Further on, the same three switch to another set. U+017D is Shift, 98 in
  * sets A and B. It does not change the set in which the next code point is encoded: C0 17D 61 (hex)
  * is refused by 3 at place 2; C0 17D 1 is 103 98 65, which scan sends as 'a'. U+017A is FNC2, 97 in
  * sets A and B. It is retired: there it is refused by 19, and before version 1.3.0 it was accepted.
  * Draw writes a row with FNC2. In set C, 97 is a pair of digits, and U+017A is refused by 3.
+ * U+0179 is FNC1, in every set; U+017B is FNC3 and U+017C FNC4, in A and B; U+00F7 is DEL, in B.
  * Accepted: second is n, and 11(n+1)+13 cells are written.
  * Refused, in this order, each test over the whole input before the next:
  *   number, when                                            second

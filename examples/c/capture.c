@@ -1,6 +1,7 @@
 /* What the image pipeline does with a capture: it unpacks the record and reads the row. Where the
- * capture is malformed, the two numbers of the refusal say what is wrong. Where a block of the row
- * is no pattern, they also say whether to photograph the label again or to print it again.
+ * capture is malformed, the two numbers of the refusal say what is wrong, the first also in words.
+ * Where a block of the row is no pattern, the words also say whether to photograph the label again
+ * or to print it again.
  *
  * No memory is reserved for a size that a capture merely declares: the buffers have the size of the
  * limit, 4,000 symbols. They are static, since 44,024 cells are much for a stack. */
@@ -14,42 +15,39 @@ static uint8_t symbols[SLATMONIEF_MOST_SYMBOLS];
 static uint8_t bytes[SLATMONIEF_MOST_SCANNED];
 static uint8_t record[SLATMONIEF_MOST_RECORD];
 
-/* What an operator does after a refusal of read, in words; the second number is the block. */
-static const char *advice(uint32_t number)
+/* Shows a refusal. */
+static void refused(const char *name, const char *job, slatmonief_answer a)
 {
-    switch (number) {
-    case 16: return ": photograph again"; /* one worn cell gives this */
-    case 12: return ": print again";
-    default: return "";
-    }
+    printf("%s: %s refused by %u, %zu: %s\n", name, job, (unsigned)a.number, a.second,
+           slatmonief_words(a.number));
 }
 
 /* Shows what one capture gives. */
 static void show(const char *name, const uint8_t *capture, size_t length)
 {
     slatmonief_answer a = slatmonief_unpack(capture, length, row, sizeof row);
-    if (a.number != 0) {
-        printf("%s: unpack refused by %u, %zu\n", name, (unsigned)a.number, a.second);
+    if (a.number != SLATMONIEF_ACCEPTED) {
+        refused(name, "unpack", a);
         return;
     }
     a = slatmonief_read(row, a.second, symbols, sizeof symbols);
-    if (a.number != 0) {
-        printf("%s: read refused by %u, %zu%s\n", name, (unsigned)a.number, a.second,
-               advice(a.number));
+    if (a.number != SLATMONIEF_ACCEPTED) {
+        refused(name, "read", a);
         return;
     }
     size_t n = a.second;
     a = slatmonief_scan(symbols, n, bytes, sizeof bytes);
-    printf("%s: %zu symbols, a scanner sends \"%.*s\"\n", name, n, (int)a.second, (const char *)bytes);
+    printf("%s: %zu symbols, a scanner sends \"%.*s\"\n", name, n, (int)a.second,
+           (const char *)bytes);
 }
 
-/* A customs label of more than 255 symbols, to its record and back: 300 pairs of digits in set C. */
+/* A customs label of more than 255 symbols, to its record and back: 300 pairs of digits, set C. */
 static void customs(void)
 {
     static uint32_t label[601] = {0x106};
     for (size_t i = 1; i < 601; i++) label[i] = '0' + i % 10;
     slatmonief_answer a = slatmonief_encode(label, 601, row, sizeof row);
-    a = slatmonief_pack(row, 11 * (a.second + 1) + 13, record, sizeof record);
+    a = slatmonief_pack(row, SLATMONIEF_CELLS(a.second), record, sizeof record);
     printf("customs label: a record of version %u and %zu bytes, ", (unsigned)record[0], a.second);
     a = slatmonief_unpack(record, a.second, row, sizeof row);
     a = slatmonief_read(row, a.second, symbols, sizeof symbols);
@@ -60,7 +58,7 @@ int main(void)
 {
     const uint32_t label[] = {0x181, 'A', 'I', 'M', 0x106, '1', '2', '3', '4'};
     slatmonief_answer a = slatmonief_encode(label, sizeof label / sizeof label[0], row, sizeof row);
-    a = slatmonief_pack(row, 11 * (a.second + 1) + 13, record, sizeof record);
+    a = slatmonief_pack(row, SLATMONIEF_CELLS(a.second), record, sizeof record);
     size_t length = a.second;
 
     show("as packed", record, length);
@@ -69,6 +67,7 @@ int main(void)
     show("declares 255 symbols", record, length);
     record[1] = 0;
     show("declares none", record, length);
+    show("empty", NULL, 0);
     record[1] = 7;
     show("cut short", record, length - 1);
     record[0] = 3;

@@ -1,6 +1,7 @@
-/* The bridge's side for this machine: the functions of slatmonief.h, each of which sends its call to the
- * library in the program of server.c under the emulator. It also checks that the library changes neither its
- * input nor a byte beside the lent buffer, and ends the test with a message if it does. */
+/* The bridge's side for this machine: the functions of slatmonief.h, each of which sends its call
+ * to the library in the program of server.c under the emulator. It also checks that the library
+ * changes neither its input nor a byte beside the lent buffer, and ends the test with a message if
+ * it does. */
 #define _GNU_SOURCE
 #include "shared.h"
 
@@ -14,7 +15,8 @@
 
 enum { GUARD = 64, MARK = 0xEE };
 
-/* A program that answers calls. It serves one call at a time, so there are as many as calls at once. */
+/* A program that answers calls. It serves one call at a time, so there are as many as calls at
+ * once. */
 struct server {
     int socket;
     uint8_t *memory;
@@ -50,7 +52,7 @@ static struct server *start(void)
     return server;
 }
 
-/* An idle server, or a new one. That of this thread's last call comes first, since it wakes sooner. */
+/* An idle server, or a new one. That of this thread's last call comes first: it wakes sooner. */
 static struct server *take(void)
 {
     static __thread struct server *last;
@@ -80,15 +82,21 @@ static int marked(const uint8_t *guard)
     return 1;
 }
 
+/* memcpy, which may not be given NULL even where the size is 0. */
+static void copy(void *to, const void *from, size_t size)
+{
+    if (size != 0) memcpy(to, from, size);
+}
+
 static slatmonief_answer ask(struct call call, const void *input, size_t input_size,
                              void *lent, size_t lent_size)
 {
     if (input_size > LENT - GUARD - INPUT || lent_size > SIZE - GUARD - LENT) fail("a buffer is too long");
     struct server *server = take();
     uint8_t *there = server->memory + INPUT, *buffer = server->memory + LENT;
-    memcpy(there, input, input_size);
+    copy(there, input, input_size);
     memset(buffer - GUARD, MARK, GUARD);
-    memcpy(buffer, lent, lent_size);
+    copy(buffer, lent, lent_size);
     memset(buffer + lent_size, MARK, GUARD);
     memcpy(server->memory, &call, sizeof call);
     char byte = 0;
@@ -96,8 +104,8 @@ static slatmonief_answer ask(struct call call, const void *input, size_t input_s
         fail("the program with the library ended: " SERVER);
     if (!marked(buffer - GUARD) || !marked(buffer + lent_size))
         fail("the library wrote beside the lent buffer");
-    if (memcmp(there, input, input_size) != 0) fail("the library changed its input");
-    memcpy(lent, buffer, lent_size);
+    if (input_size != 0 && memcmp(there, input, input_size) != 0) fail("the library changed its input");
+    copy(lent, buffer, lent_size);
     memcpy(&call, server->memory, sizeof call);
     give_back(server);
     return call.answer;
@@ -106,7 +114,8 @@ static slatmonief_answer ask(struct call call, const void *input, size_t input_s
 #define FUNCTION(name, from, to) \
     slatmonief_answer slatmonief_##name(const from *input, size_t input_len, to *lent, size_t lent_len) \
     { \
-        struct call call = {number_##name, input_len, lent_len, {98, 0}}; /* no refusal has this number */ \
+        struct call call = {number_##name, input_len, lent_len, !input, !lent, \
+                            {98, 0}}; /* no refusal has this number */ \
         return ask(call, input, input_len * sizeof *input, lent, lent_len * sizeof *lent); \
     }
 FUNCTIONS(FUNCTION)

@@ -1,5 +1,6 @@
-/* The x86-64 side of the bridge: a program that is linked with the library and calls it for client.c, until
- * the socket is closed. Standard input is the socket, and standard output is the shared memory. */
+/* The x86-64 side of the bridge: a program that is linked with the library and calls it for
+ * client.c, until the socket is closed. Standard input is the socket, and standard output is the
+ * shared memory. */
 #include "shared.h"
 
 /* The kit has the C library for x86-64 without its headers. */
@@ -26,7 +27,9 @@ int main(void)
     struct call *call = (struct call *)memory;
     char byte;
     while (read(0, &byte, 1) == 1) {
-        call->answer = answer(call, memory + INPUT, memory + LENT);
+        void *input = call->input_null ? NULL : memory + INPUT;
+        void *lent = call->lent_null ? NULL : memory + LENT;
+        call->answer = answer(call, input, lent);
         if (write(0, &byte, 1) != 1) return 1;
     }
     return 0;

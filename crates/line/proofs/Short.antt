@@ -79,3 +79,8 @@ content-short otherForm h = omega arith
 pub line-short : (line : List ℕ) → length (lineOut line) ≤ 22560
 unfolding lineOut
 line-short line = omega (arith, length-append (contentLine (contentOf line)) (10 ∷ []), content-short (contentOf line) (line-few line))
+
+-- and at least its newline
+pub line-some : (line : List ℕ) → 1 ≤ length (lineOut line)
+unfolding lineOut
+line-some line = omega (arith, length-append (contentLine (contentOf line)) (10 ∷ []))

@@ -4,12 +4,12 @@
 use Prim.Native.Nat.{ℕ, zero, suc, _+_, _/_, _%_, _<_, _≤_}
 use mathlib.Core.Path.{_≡_, refl, sym, ap, _∙_}
 use mathlib.Core.Bool.{Bool, true, false}
-use mathlib.Core.List.{List, [], _∷_, map}
+use mathlib.Core.List.{List, [], _∷_, _++_, map}
 use native.Mathlib.Nat.{zero-add}
 use native.Mathlib.Omega.{arith}
-use borrow.Author.Tests.{leb-true, le-leb, lt-leb}
+use borrow.Author.Tests.{leb-true, leb-false, le-leb, lt-leb}
 use lib.Dec.{leb}
-use lib.ListN.{length, getD, set, length-append}
+use lib.ListN.{length, getD, set, drop, length-append}
 use lib.Seq.{sets}
 use Rattle.helpers.specs.Answers.{if_then_else_}
 use Rattle.helpers.proofs.Gives.{stored-one, stored-then}
@@ -71,3 +71,21 @@ wrote-within {text} {buf} p = within (leb (length text) (length buf)) refl (p .w
     within : {r : ℕ} (b : Bool) → leb (length text) (length buf) ≡ b → r ≡ length (if b then text else []) → r ≤ length buf
     within true e h = omega (arith, leb-true (length text) (length buf) e)
     within false e h = omega arith
+
+-- a text that has bytes was written where some were, and did not fit where none were
+pub wrote-short : {text buf out : List ℕ} {r : ℕ} → Wrote text r buf out → 1 ≤ length text → r < 1 → (length buf < length text) × (out ≡ buf)
+unfolding fitting
+wrote-short {text} {buf} {out} {r} p some none = short (leb (length text) (length buf)) refl (p .wrote-length) (p .wrote-buffer)
+  where
+    short : (b : Bool) → leb (length text) (length buf) ≡ b → r ≡ length (if b then text else []) → out ≡ (if b then text else []) ++ drop r buf
+        → (length buf < length text) × (out ≡ buf)
+    short true e h w = absurd (omega arith)
+    short false e h w = (omega (arith, leb-false (length text) (length buf) e), rw h at w)
+
+pub wrote-whole : {text buf out : List ℕ} {r : ℕ} → Wrote text r buf out → 1 ≤ r → (r ≡ length text) × (out ≡ text ++ drop r buf)
+unfolding fitting
+wrote-whole {text} {buf} {out} {r} p some = whole (leb (length text) (length buf)) (p .wrote-length) (p .wrote-buffer)
+  where
+    whole : (b : Bool) → r ≡ length (if b then text else []) → out ≡ (if b then text else []) ++ drop r buf → (r ≡ length text) × (out ≡ text ++ drop r buf)
+    whole true h w = (h, w)
+    whole false h w = absurd (omega arith)

@@ -4,6 +4,7 @@ ghost use mathlib.Core.Path.{_≡_};
 ghost use mathlib.Core.List.{List, [], _∷_, _++_};
 ghost use lib.ListN.{length, getD};
 ghost use Rattle.lines.specs.Given.{Holds, Fed};
+use crate::LINE;
 
 // A place of a chunk, and how much of the line's buffer is filled there.
 pub struct Place {
@@ -13,12 +14,12 @@ pub struct Place {
 
 // One more byte of a line. A full buffer keeps what it has: it shows that the line is too long,
 // whatever follows.
-fn push(line: &mut [u8], len: usize, b: u8) -> usize
-    requires { ⌜ len ≤ length (now line) ⌝ }
-    ensures { λ r. ⌜ r ≤ length (now (line .exit)) ⌝ }
+fn push(line: &mut [u8; LINE], len: usize, b: u8) -> usize
+    requires { ⌜ len ≤ 4097 ⌝ }
+    ensures { λ r. ⌜ r ≤ 4097 ⌝ }
     ensures { λ r. ⌜ ((cur : List ℕ) → Holds cur (now (line .entry)) len → Holds (cur ++ (b ∷ [])) (now (line .exit)) r) ⌝ }
 {
-    if line.len() <= len {
+    if LINE <= len {
         return len;
     }
     line[len] = b;
@@ -26,8 +27,8 @@ fn push(line: &mut [u8], len: usize, b: u8) -> usize
 }
 
 // Goes on with a line to the next newline, or to the chunk's end.
-pub(crate) fn gather(chunk: &[u8], at: usize, line: &mut [u8], len: usize) -> Place
-    requires { ⌜ len ≤ length (now line) ⌝ }
+pub(crate) fn gather(chunk: &[u8], at: usize, line: &mut [u8; LINE], len: usize) -> Place
+    requires { ⌜ len ≤ 4097 ⌝ }
     ensures { λ r. ⌜ Fed (now (chunk .entry)) at (now (line .entry)) len [] (r .at) (now (line .exit)) (r .len) ⌝ }
     ensures { λ r. ⌜ (r .at < length (now (chunk .entry)) → getD (now (chunk .entry)) (r .at) 0 ≡ 10) ⌝ }
 {

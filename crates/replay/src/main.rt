@@ -8,6 +8,8 @@ ghost use lib.ListN.{length};
 use helpers::Answer;
 use libc::STDIN_FILENO;
 use libc::STDOUT_FILENO;
+use lines::Finished;
+use lines::LINE;
 
 // Between two reads: how much of the line's buffer is filled, and whether to read on.
 struct State {
@@ -100,7 +102,7 @@ fn show(line: &[u8]) {
 
 // Goes over one chunk and returns how much of the line's buffer is filled. The output has room
 // for one answer, so `feed` comes back after each.
-fn pump(chunk: &[u8], line: &mut [u8], len: usize) -> usize {
+fn pump(chunk: &[u8], line: &mut [u8; LINE], len: usize) -> usize {
     let mut out = [0u8; lines::ANSWER];
     let mut at: usize = 0;
     let mut n = len;
@@ -115,7 +117,7 @@ fn pump(chunk: &[u8], line: &mut [u8], len: usize) -> usize {
 }
 
 // Reads once and goes over what came. A read that fails ends the input.
-fn turn(chunk: &mut [u8], line: &mut [u8], len: usize) -> State {
+fn turn(chunk: &mut [u8], line: &mut [u8; LINE], len: usize) -> State {
     let got = libc::read(STDIN_FILENO, chunk);
     let n = io::count(got, chunk);
     if n < 1 {
@@ -127,7 +129,7 @@ fn turn(chunk: &mut [u8], line: &mut [u8], len: usize) -> State {
 
 // Reads to the input's end; counts its turns down, from a number that no run uses up, since a
 // proved loop has to end.
-fn drain(chunk: &mut [u8], line: &mut [u8]) -> usize {
+fn drain(chunk: &mut [u8], line: &mut [u8; LINE]) -> usize {
     let mut len: usize = 0;
     let mut turns = u64::MAX;
     while turns > 0 {
@@ -144,9 +146,12 @@ fn drain(chunk: &mut [u8], line: &mut [u8]) -> usize {
 // Replays all lines, a last one without newline too.
 fn main() {
     let mut chunk = [0u8; 65536];
-    let mut line = [0u8; lines::LINE];
+    let mut line = [0u8; LINE];
     let len = drain(&mut chunk, &mut line);
     let mut out = [0u8; lines::ANSWER];
-    let n = lines::finish(&line, len, &mut out);
+    // No last line; there is room for every answer.
+    let Finished::Line(n) = lines::finish(&line, len, &mut out) else {
+        return;
+    };
     show(&out[0..n]);
 }

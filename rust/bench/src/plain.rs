@@ -270,7 +270,9 @@ fn word(block: &[u8]) -> u16 {
 /// Finds a block's word pattern by pattern and cell by cell, and leaves a pattern at the first cell
 /// that differs. Of a dozen ways to write this, it is the fastest with Rust 1.95 on Arm, since the
 /// compiler joins the tests of bits; with the row's cells instead it takes about 3 times as long,
-/// and with the first cell asked before the search, as the library does, 1.04 to 1.36 times.
+/// and with the first cell asked before the search, as the library does, 1.04 to 1.36 times. So
+/// clippy's loop over the patterns themselves is not taken.
+#[allow(clippy::needless_range_loop)]
 fn search(block: &[u8]) -> Option<u8> {
     let word = word(block);
     'search: {

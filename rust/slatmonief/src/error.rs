@@ -1,9 +1,9 @@
 //! The error type of the crate barcoders, with the same names and messages.
-use std::error::Error as StdError;
-use std::fmt;
+use crate::Refusal;
+use core::fmt;
 
 /// Why a barcode cannot be encoded.
-#[derive(Copy, Clone, Debug, PartialEq)]
+#[derive(Copy, Clone, Debug, PartialEq, Eq, Hash)]
 pub enum Error {
     /// The data has a character that cannot be encoded at its place.
     Character,
@@ -11,12 +11,41 @@ pub enum Error {
     Length,
     /// A picture cannot be made. This crate never returns it.
     Generate,
-    /// The checksum is invalid. This crate never returns it.
+    /// The check is wrong. This crate returns it only as what a [`Refusal`] of [`crate::read`]
+    /// becomes.
     Checksum,
 }
 
 /// A `Result` with this error.
 pub type Result<T> = ::core::result::Result<T, Error>;
+
+/// The error that stands for a refusal, so that `?` works in a function that returns [`Result`].
+/// [`Code128::new`](crate::sym::code128::Code128::new) uses it, where 2, 3, 19 and 4 occur.
+///
+/// | Refusal | Error |
+/// |---|---|
+/// | 2, 4, 5, 10, 20, 22: a text, row, list, record or buffer is too short or too long | `Length` |
+/// | 1, 3, 19: a character cannot be encoded | `Character` |
+/// | 11, 12, 13, 15, 16, 21, 23: a cell, block, number, version or bit is wrong | `Character` |
+/// | 14: the check is wrong | `Checksum` |
+///
+/// ```
+/// use slatmonief::error::{Error, Result};
+///
+/// fn copied(row: &[u8]) -> Result<Vec<u8>> {
+///     Ok(slatmonief::draw_symbols(&slatmonief::read_row(row)?)?)
+/// }
+/// assert_eq!(copied(&[1, 0, 1]), Err(Error::Length));
+/// ```
+impl From<Refusal> for Error {
+    fn from(refusal: Refusal) -> Error {
+        match refusal.number() {
+            2 | 4 | 5 | 10 | 20 | 22 => Error::Length,
+            14 => Error::Checksum,
+            _ => Error::Character,
+        }
+    }
+}
 
 impl fmt::Display for Error {
     fn fmt(&self, f: &mut fmt::Formatter<'_>) -> fmt::Result {
@@ -29,4 +58,5 @@ impl fmt::Display for Error {
     }
 }
 
-impl StdError for Error {}
+#[cfg(feature = "std")]
+impl std::error::Error for Error {}

@@ -11,7 +11,8 @@
 //! - A *row* is the cells of a symbol list, of its check and of the stop: 11(n+1)+13 cells.
 //! - A *row record* is a row in few bytes: a version byte, n, and then eight cells in each byte.
 //!   [`pack`] describes its two versions.
-//! - Places in texts, lists, rows and records count from 0.
+//! - Places in texts, lists, rows and records count from 0. In a text they count code points
+//!   (`char`s), and not bytes; [`Refusal::offset`] is the place in bytes.
 //!
 //! # Three ways to call it
 //!
@@ -25,9 +26,9 @@
 //! - [`encode_str`], [`draw_symbols`], [`read_row`], [`spell_symbols`], [`scan_symbols`],
 //!   [`pack_row`] and [`unpack_record`] do the same and return a new `Vec` or `String`. What they
 //!   reserve for it goes by the length of the input, and never exceeds those sizes, in elements;
-//!   `spell_symbols` then makes a `String` of them.
-//! - [`sym::code128::Code128`] has the signatures of the crate barcoders. A program that uses that
-//!   crate changes one `use` line.
+//!   `spell_symbols` then makes a `String` of them. `encode_str` also copies the code points of the
+//!   text, if they are no more than [`MOST_CODE_POINTS`].
+//! - [`sym::code128::Code128`] and [`error`] have the signatures of the crate barcoders: see below.
 //!
 //! # Example
 //!
@@ -41,16 +42,62 @@
 //! let record = slatmonief::pack_row(&row)?;
 //! assert_eq!(slatmonief::unpack_record(&record)?, row);
 //!
-//! let refusal = slatmonief::encode_str("Ć1").unwrap_err();
-//! assert_eq!((refusal.number(), refusal.second()), (3, 2));
-//! assert_eq!(refusal.to_string(), "refusal 3: parsing stops at place 2");
+//! let refusal = slatmonief::encode_str("Ɓ€").unwrap_err();
+//! assert_eq!((refusal.number(), refusal.second()), (3, 1));
+//! assert_eq!((refusal.offset(), refusal.character()), (Some(2), Some('€')));
+//! assert_eq!(
+//!     refusal.to_string(),
+//!     "refusal 3: `€` has no number in set B, at place 1 (counted in code points; byte 2)"
+//! );
 //! # Ok::<(), slatmonief::Refusal>(())
 //! ```
+//!
+//! # For a program that uses barcoders
+//!
+//! Each `use barcoders::…` line becomes `use slatmonief::…`, and a path that is written out
+//! elsewhere changes in the same way:
+//!
+//! | Was | Is |
+//! |---|---|
+//! | `use barcoders::sym::code128::*;` | `use slatmonief::sym::code128::*;` |
+//! | `use barcoders::error::{Error, Result};` | `use slatmonief::error::{Error, Result};` |
+//!
+//! Or one line at the root of the program, and no other changes:
+//!
+//! ```
+//! extern crate slatmonief as barcoders;
+//! # fn main() -> barcoders::error::Result<()> {
+//! use barcoders::sym::code128::*;
+//!
+//! let encoded: Vec<u8> = Code128::new("ÀHE@$AĆ123456")?.encode();
+//! # assert_eq!(encoded.len(), 134);
+//! # Ok(())
+//! # }
+//! ```
+//!
+//! The other symbologies of barcoders and its pictures are not here. [`sym::code128`] says which
+//! two answers differ. A [`Refusal`] becomes an [`error::Error`] by `?` or `into()`.
+//!
+//! # Without std
+//!
+//! The feature `std` is on by default, as in barcoders. Without it (`default-features = false`) the
+//! crate needs only `alloc`, and its two error types do not implement `std::error::Error`.
+//!
+//! # Threads
+//!
+//! The library keeps nothing between two calls. Any number of threads may call it at once.
+#![cfg_attr(not(feature = "std"), no_std)]
 #![warn(missing_docs)]
+
+extern crate alloc;
 
 pub mod error;
 mod refusal;
 pub mod sym;
+mod text;
+
+use alloc::string::String;
+use alloc::vec::Vec;
 
 pub use refusal::Refusal;
 
@@ -58,7 +105,8 @@ pub use refusal::Refusal;
 pub const MOST_CELLS: usize = 44_024;
 /// The most symbols that a list has.
 pub const MOST_SYMBOLS: usize = 4_000;
-/// The most code points that [`spell`] writes.
+/// The most code points that [`spell`] writes, and that a text has which [`encode`] accepts: one
+/// for the START and at most two for each of 3,999 symbols.
 pub const MOST_CODE_POINTS: usize = 7_999;
 /// The most bytes that [`scan`] writes.
 pub const MOST_SCANNED: usize = 7_998;
@@ -130,10 +178,11 @@ fn answer(job: refusal::Job, a: Numbers) -> Result<usize, Refusal> {
 macro_rules! job {
     (
         $(#[$doc:meta])*
-        $name:ident, $extern:ident, $job:ident, $input:ident: $from:ty, $output:ident: $to:ty
+        $see:vis $name:ident, $extern:ident, $job:ident,
+        $input:ident: $from:ty, $output:ident: $to:ty
     ) => {
         $(#[$doc])*
-        pub fn $name($input: &[$from], $output: &mut [$to]) -> Result<usize, Refusal> {
+        $see fn $name($input: &[$from], $output: &mut [$to]) -> Result<usize, Refusal> {
             // SAFETY: both slices are valid for their lengths, a `&` and a `&mut` slice do not
             // overlap, and the library keeps neither of them.
             let numbers = unsafe {
@@ -145,51 +194,57 @@ macro_rules! job {
 }
 
 job! {
-    /// Encodes a text, given as code points, to a row; returns n, the number of symbols.
-    ///
-    /// The text names its code sets: it begins with À, Ɓ or Ć for set A, B or C, and switches to
-    /// another set by the same letters. Other letters are written for symbols that have no
-    /// character of their own: Ź for FNC1, Ż for FNC3, ż for FNC4, Ž for Shift and, in set B, ÷ for
-    /// DEL. Set C takes digits in pairs, Ź and the switches; a Ź inside a pair gives the same row
-    /// as a Ź ahead of the pair.
-    ///
-    /// ź for FNC2 is retired: before version 1.3.0 it was 97 in sets A and B. A row that has this
-    /// symbol is still read, spelled, scanned and drawn. In set C, 97 is a pair of digits, and ź
-    /// is refused by 3, as it always was.
-    ///
-    /// Shift does not change the set in which the next code point is encoded, as in barcoders:
-    /// `ÀŽa` is refused, since set A has no `a`. [`scan`] does shift: `a` is 65 in set B, and 65 in
-    /// set A is U+0001, so write `ÀŽ\u{1}` to have an `a` sent.
-    ///
-    /// # Refusals, in this order
-    ///
-    /// | Number | Reason | Second number |
-    /// |---|---|---|
-    /// | 1 | a value is not a Unicode scalar value | its place |
-    /// | 2 | the text has fewer than two UTF-8 bytes | 0 |
-    /// | 3 | parsing stops | the place; the length of the text if a digit is left over |
-    /// | 19 | the text has a ź (FNC2), which is retired | the place of the first |
-    /// | 4 | more than 4,000 symbols are needed | the symbols needed |
-    /// | 5 | `row` is too short | the cells needed |
-    ///
-    /// Parsing stops at place 0 if the text does not begin with À, Ɓ or Ć. Later it stops at a code
-    /// point that has no number in the current set and, after the first digit of a pair, at
-    /// anything but a digit or Ź. Each refusal is tested over the whole text before the next, so
-    /// `Ɓź€` is refused by 3 at place 2.
-    ///
-    /// # Example
-    ///
-    /// ```
-    /// let mut row = [7; 40];
-    /// assert_eq!(slatmonief::encode(&[0xC0], &mut row), Ok(1));
-    /// assert_eq!(row[35..], [7; 5]);
-    ///
-    /// let refusal = slatmonief::encode(&[0xC0, 0x17A], &mut row).unwrap_err();
-    /// assert_eq!((refusal.number(), refusal.second()), (19, 1));
-    /// assert_eq!(refusal.to_string(), "refusal 19: ź (FNC2) at place 1 is retired");
-    /// ```
-    encode, slatmonief_encode, Encode, text: u32, row: u8
+    /// The call of encode, whose refusals do not say yet what stands at their place.
+    call_encode, slatmonief_encode, Encode, text: u32, row: u8
 }
+
+/// Encodes a text, given as code points, to a row; returns n, the number of symbols.
+///
+/// The text names its code sets: it begins with À, Ɓ or Ć for set A, B or C, and switches to
+/// another set by the same letters. Other letters are written for symbols that have no
+/// character of their own: Ź for FNC1, Ż for FNC3, ż for FNC4, Ž for Shift and, in set B, ÷ for
+/// DEL. Set C takes digits in pairs, Ź and the switches; a Ź inside a pair gives the same row
+/// as a Ź ahead of the pair.
+///
+/// ź for FNC2 is retired: before version 1.3.0 it was 97 in sets A and B. A row that has this
+/// symbol is still read, spelled, scanned and drawn. In set C, 97 is a pair of digits, and ź
+/// is refused by 3, as it always was.
+///
+/// Shift does not change the set in which the next code point is encoded, as in barcoders:
+/// `ÀŽa` is refused, since set A has no `a`. [`scan`] does shift: `a` is 65 in set B, and 65 in
+/// set A is U+0001, so write `ÀŽ\u{1}` to have an `a` sent.
+///
+/// # Refusals, in this order
+///
+/// | Number | Reason | Second number |
+/// |---|---|---|
+/// | 1 | a value is not a Unicode scalar value | its place |
+/// | 2 | the text has fewer than two UTF-8 bytes | 0 |
+/// | 3 | parsing stops | the place; the length of the text if a digit is left over |
+/// | 19 | the text has a ź (FNC2), which is retired | the place of the first |
+/// | 4 | more than 4,000 symbols are needed | the symbols needed |
+/// | 5 | `row` is too short | the cells needed |
+///
+/// Parsing stops at place 0 if the text does not begin with À, Ɓ or Ć. Later it stops at a code
+/// point that has no number in the current set and, after the first digit of a pair, at
+/// anything but a digit or Ź. Each refusal is tested over the whole text before the next, so
+/// `Ɓź€` is refused by 3 at place 2.
+///
+/// # Example
+///
+/// ```
+/// let mut row = [7; 40];
+/// assert_eq!(slatmonief::encode(&[0xC0], &mut row), Ok(1));
+/// assert_eq!(row[35..], [7; 5]);
+///
+/// let refusal = slatmonief::encode(&[0xC0, 0x17A], &mut row).unwrap_err();
+/// assert_eq!((refusal.number(), refusal.second()), (19, 1));
+/// assert_eq!(refusal.to_string(), "refusal 19: ź (FNC2) at place 1 is retired");
+/// ```
+pub fn encode(text: &[u32], row: &mut [u8]) -> Result<usize, Refusal> {
+    call_encode(text, row).map_err(|refusal| refusal.in_points(text))
+}
+
 job! {
     /// Draws a symbol list as a row; returns n, the number of symbols.
     ///
@@ -200,7 +255,7 @@ job! {
     /// | 10 | the list is empty or has more than 4,000 symbols | its length |
     /// | 13 | place 0 is not a START, or a later number is above 102 | the first such place |
     /// | 5 | `row` is too short | the cells needed |
-    draw, slatmonief_draw, Draw, symbols: u8, row: u8
+    pub draw, slatmonief_draw, Draw, symbols: u8, row: u8
 }
 job! {
     /// Reads a row back to its symbol list; returns n, the number of symbols.
@@ -241,7 +296,7 @@ job! {
     /// let refusal = slatmonief::read(&row, &mut symbols).unwrap_err();
     /// assert_eq!((refusal.number(), refusal.second()), (16, 1));
     /// ```
-    read, slatmonief_read, Read, row: u8, symbols: u8
+    pub read, slatmonief_read, Read, row: u8, symbols: u8
 }
 job! {
     /// Spells a symbol list as a text, in code points; returns the number of code points written.
@@ -272,7 +327,7 @@ job! {
     /// assert_eq!(slatmonief::draw_symbols(&symbols)?, row);
     /// # Ok::<(), slatmonief::Refusal>(())
     /// ```
-    spell, slatmonief_spell, Spell, symbols: u8, text: u32
+    pub spell, slatmonief_spell, Spell, symbols: u8, text: u32
 }
 job! {
     /// Writes the 7-bit bytes that a scanner sends for a symbol list; returns their number.
@@ -302,7 +357,7 @@ job! {
     /// assert_eq!(bytes[..n], *b"AaB");
     /// # Ok::<(), slatmonief::Refusal>(())
     /// ```
-    scan, slatmonief_scan, Scan, symbols: u8, bytes: u8
+    pub scan, slatmonief_scan, Scan, symbols: u8, bytes: u8
 }
 job! {
     /// Packs the cells of a row into a row record; returns the number of bytes written.
@@ -340,7 +395,7 @@ job! {
     /// assert_eq!(slatmonief::unpack_record(&record)?, row);
     /// # Ok::<(), slatmonief::Refusal>(())
     /// ```
-    pack, slatmonief_pack, Pack, row: u8, record: u8
+    pub pack, slatmonief_pack, Pack, row: u8, record: u8
 }
 job! {
     /// Unpacks a row record to the cells of its row; returns the number of cells written.
@@ -373,7 +428,7 @@ job! {
     /// let refusal = slatmonief::unpack(&[2, 255, 255], &mut row).unwrap_err();
     /// assert_eq!((refusal.number(), refusal.second()), (22, 0));
     /// ```
-    unpack, slatmonief_unpack, Unpack, record: u8, row: u8
+    pub unpack, slatmonief_unpack, Unpack, record: u8, row: u8
 }
 
 /// What a job writes to the front of a new buffer of this length, as a vector. Each caller takes
@@ -400,13 +455,30 @@ fn cells(n: usize) -> usize {
 /// Encodes a text like [`encode`], and returns the row.
 ///
 /// A `&str` has only scalar values and the row always has enough room, so refusals 1 and 5 do not
-/// occur; 2, 3, 19 and 4 do. The text is copied as code points first, whatever its length, since a
-/// refusal can be for any of them.
+/// occur; 2, 3, 19 and 4 do. [`Refusal::offset`] and [`Refusal::character`] say where in the text
+/// refusals 3 and 19 are, and what stands there.
+///
+/// A text of up to [`MOST_CODE_POINTS`] code points is copied and goes to the library. No longer
+/// one is accepted: it is answered here, in plain Rust, by one look at each character (a second one
+/// up to the place of refusal 3 or 19), and nothing is reserved for it. That these answers are
+/// those of [`encode`] is tested, not proved.
 pub fn encode_str(text: &str) -> Result<Vec<u8>, Refusal> {
-    let points: Vec<u32> = text.chars().map(u32::from).collect();
-    // A code point gives at most one symbol.
+    if is_longer_than_any_label(text) {
+        let (number, second) = text::parse(text);
+        debug_assert_ne!(number, 0, "a longer text is never accepted");
+        return Err(Refusal::new(refusal::Job::Encode, number, second).in_text(text));
+    }
+    // A code point takes at least one byte, and gives at most one symbol.
+    let mut points = Vec::with_capacity(text.len().min(MOST_CODE_POINTS));
+    points.extend(text.chars().map(u32::from));
     let room = cells(points.len().min(MOST_SYMBOLS));
-    lent(room, |row| encode(&points, row), cells)
+    lent(room, |row| call_encode(&points, row), cells).map_err(|refusal| refusal.in_text(text))
+}
+
+/// Whether the text has more code points than a text that is accepted.
+fn is_longer_than_any_label(text: &str) -> bool {
+    // The first test is enough for most, and the second stops where the limit is.
+    text.len() > MOST_CODE_POINTS && text.chars().nth(MOST_CODE_POINTS).is_some()
 }
 
 /// Draws a symbol list like [`draw`], and returns the row. Refusal 5 does not occur.

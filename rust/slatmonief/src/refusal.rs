@@ -1,6 +1,6 @@
+use crate::text::{Set, State};
 use crate::MOST_SYMBOLS;
-use std::error::Error;
-use std::fmt;
+use core::fmt;
 
 /// The job that refused: the words for refusals 5, 10 and 13 depend on it.
 #[derive(Clone, Copy, Debug, PartialEq, Eq, Hash)]
@@ -14,22 +14,47 @@ pub(crate) enum Job {
     Unpack,
 }
 
+/// What stands at the place of refusal 3 or 19.
+#[derive(Clone, Copy, Debug, PartialEq, Eq, Hash)]
+struct Spot {
+    /// The parser's state there.
+    state: State,
+    /// Nothing at the end of the text.
+    character: Option<char>,
+    /// Nothing if the text was given as code points.
+    offset: Option<usize>,
+}
+
 /// Why a call was refused: the number of the refusal and a second number. The lent buffer is
 /// unchanged.
 ///
 /// The documentation of each function lists its refusals. The text of the error gives both numbers
 /// in words.
 ///
+/// A place in a text counts code points (`char`s) from 0, and not bytes: Ɓ is one code point and
+/// two bytes. [`offset`](Refusal::offset) is the same place in bytes, as slices of a `&str` count,
+/// and [`character`](Refusal::character) is what stands there.
+///
 /// ```
-/// let refusal = slatmonief::encode_str("ÀHello").unwrap_err();
+/// let text = "ÀHello";
+/// let refusal = slatmonief::encode_str(text).unwrap_err();
 /// assert_eq!((refusal.number(), refusal.second()), (3, 2));
-/// assert_eq!(refusal.to_string(), "refusal 3: parsing stops at place 2");
+/// assert_eq!((refusal.offset(), refusal.character()), (Some(3), Some('e')));
+/// assert_eq!(text[3..], *"ello");
+/// assert_eq!(
+///     refusal.to_string(),
+///     "refusal 3: `e` has no number in set A, at place 2 (counted in code points; byte 3)"
+/// );
 /// ```
+///
+/// The words are always one line. A character that is no Latin letter, ASCII sign or currency sign
+/// is named in them by its number, as U+0301, since it may be invisible or join what is beside it.
 #[derive(Clone, Copy, Debug, PartialEq, Eq, Hash)]
 pub struct Refusal {
     job: Job,
     number: u32,
     second: usize,
+    spot: Option<Spot>,
 }
 
 impl Refusal {
@@ -39,7 +64,42 @@ impl Refusal {
             job,
             number,
             second,
+            spot: None,
         }
+    }
+
+    /// Whether encode refused something at a place of its text.
+    fn is_at_a_place(&self) -> bool {
+        self.job == Job::Encode && matches!(self.number, 3 | 19)
+    }
+
+    /// The refusal of encode, with what stands at its place in this text.
+    pub(crate) fn in_text(mut self, text: &str) -> Refusal {
+        if self.is_at_a_place() {
+            let mut rest = text.chars();
+            let state = State::after(rest.by_ref().take(self.second));
+            self.spot = Some(Spot {
+                state,
+                offset: Some(text.len() - rest.as_str().len()),
+                character: rest.next(),
+            });
+        }
+        self
+    }
+
+    /// The refusal of encode, with what stands at its place in these code points. All of them are
+    /// scalar values, since refusal 1 comes before.
+    pub(crate) fn in_points(mut self, text: &[u32]) -> Refusal {
+        if self.is_at_a_place() {
+            let mut rest = text.iter().filter_map(|&point| char::from_u32(point));
+            let state = State::after(rest.by_ref().take(self.second));
+            self.spot = Some(Spot {
+                state,
+                offset: None,
+                character: rest.next(),
+            });
+        }
+        self
     }
 
     /// The number of the refusal, from 1 to 23.
@@ -48,8 +108,89 @@ impl Refusal {
     }
 
     /// The second number: a place, a block, a length, a version, a check, or what would be needed.
+    /// A place in a text counts code points.
     pub fn second(&self) -> usize {
         self.second
+    }
+
+    /// The byte of the text at which the refused place begins, for refusals 3 and 19 of
+    /// [`encode_str`](crate::encode_str). It is the length of the text in bytes if a digit is left
+    /// over at its end. `None` for every other call, [`encode`](crate::encode) among them, whose
+    /// text has no bytes, and for every other refusal.
+    pub fn offset(&self) -> Option<usize> {
+        self.spot?.offset
+    }
+
+    /// The character at the refused place, for refusals 3 and 19 of
+    /// [`encode_str`](crate::encode_str) and [`encode`](crate::encode). `None` if a digit is left
+    /// over at the end of the text, for every other call and for every other refusal.
+    pub fn character(&self) -> Option<char> {
+        self.spot?.character
+    }
+
+    /// The words of refusal 3.
+    fn stopped(&self, spot: Spot, f: &mut fmt::Formatter<'_>) -> fmt::Result {
+        let place = Place(self);
+        match (spot.state, spot.character) {
+            (State::Start, Some(c)) => {
+                let c = Shown(c);
+                write!(
+                    f,
+                    "no START: begin with À, Ɓ or Ć, not with {c}, at {place}"
+                )
+            }
+            (State::Free(set), Some(c)) => {
+                let (c, set) = (Shown(c), letter(set));
+                write!(f, "{c} has no number in set {set}, at {place}")
+            }
+            (State::Held, Some(c)) => {
+                let c = Shown(c);
+                write!(
+                    f,
+                    "a digit is waiting for the second of its pair, and {c} is no digit, at {place}"
+                )
+            }
+            (_, None) => write!(f, "a digit is left over at the text's end, {place}"),
+        }
+    }
+}
+
+/// The name of a code set.
+fn letter(set: Set) -> char {
+    match set {
+        Set::A => 'A',
+        Set::B => 'B',
+        Set::C => 'C',
+    }
+}
+
+/// The place of a refusal, in words.
+struct Place<'a>(&'a Refusal);
+
+impl fmt::Display for Place<'_> {
+    fn fmt(&self, f: &mut fmt::Formatter<'_>) -> fmt::Result {
+        write!(f, "place {}", self.0.second)?;
+        match self.0.offset() {
+            Some(offset) => write!(f, " (counted in code points; byte {offset})"),
+            None => Ok(()),
+        }
+    }
+}
+
+/// A character in words: Latin letters, ASCII signs but the backtick, and currency signs as they
+/// are, any other by its number.
+struct Shown(char);
+
+impl fmt::Display for Shown {
+    fn fmt(&self, f: &mut fmt::Formatter<'_>) -> fmt::Result {
+        match self.0 {
+            c @ ('!'..='_'
+            | 'a'..='~'
+            | '\u{A1}'..='\u{AC}'
+            | '\u{AE}'..='\u{24F}'
+            | '\u{20A0}'..='\u{20BF}') => write!(f, "`{c}`"),
+            c => write!(f, "U+{:04X}", u32::from(c)),
+        }
     }
 }
 
@@ -60,51 +201,69 @@ impl fmt::Display for Refusal {
         match (self.number, self.job) {
             (1, _) => write!(f, "the value at place {m} is no Unicode scalar value"),
             (2, _) => write!(f, "the text has fewer than two UTF-8 bytes"),
-            (3, _) => write!(f, "parsing stops at place {m}"),
+            (3, _) => match self.spot {
+                Some(spot) => self.stopped(spot, f),
+                None => write!(f, "parsing stops at place {m}"),
+            },
             (4, _) => write!(f, "{m} symbols are needed and {MOST_SYMBOLS} is the limit"),
-            (5, Job::Encode | Job::Draw | Job::Unpack) => {
-                write!(f, "the row's buffer is too short, {m} cells are needed")
-            }
-            (5, Job::Read) => write!(f, "the list's buffer is too short, {m} symbols are needed"),
-            (5, Job::Spell) => write!(
-                f,
-                "the text's buffer is too short, {m} code points are needed"
-            ),
-            (5, Job::Scan | Job::Pack) => {
-                write!(f, "the buffer is too short, {m} bytes are needed")
-            }
+            (5, job) => too_short(job, m, f),
             (10, Job::Read | Job::Pack) => write!(f, "no row has {m} cells"),
             (10, _) => write!(f, "no symbol list has {m} symbols"),
-            (11, _) => write!(f, "the cell at place {m} is neither 0 nor 1"),
-            (12, _) => write!(
-                f,
-                "block {m} is none of the 106 patterns and has an even number of bar cells: print \
-                 again"
-            ),
-            (16, _) => write!(
-                f,
-                "block {m} is none of the 106 patterns and has an odd number of bar cells, as one \
-                 worn cell can leave it: photograph again"
-            ),
             (13, Job::Read) => write!(f, "block {m} has a number that may not stand there"),
             (13, _) => write!(f, "the number at place {m} may not stand there"),
-            (14, _) => write!(f, "the check is wrong, {m} would be right"),
-            (15, _) => write!(f, "the cell at place {m} is not the stop's"),
-            (19, _) => write!(f, "ź (FNC2) at place {m} is retired"),
-            (20, _) => write!(f, "a record of {m} bytes has no head"),
-            (21, _) => write!(f, "the record's version is {m}, neither 1 nor 2"),
-            (22, _) if m == 0 => write!(
-                f,
-                "the record's count is missing, or none that its version has"
-            ),
-            (22, _) => write!(
-                f,
-                "the record's length is not what its count needs, {m} bytes"
-            ),
-            (23, _) => write!(f, "a spare bit is set in the last byte, at place {m}"),
+            (11 | 12 | 14..=16, _) => bad_row(self.number, m, f),
+            (19, _) => write!(f, "ź (FNC2) at {} is retired", Place(self)),
+            (20..=23, _) => bad_record(self.number, m, f),
             (_, _) => write!(f, "second number {m}"),
         }
     }
 }
 
-impl Error for Refusal {}
+/// The words of refusal 5.
+fn too_short(job: Job, m: usize, f: &mut fmt::Formatter<'_>) -> fmt::Result {
+    let (buffer, elements) = match job {
+        Job::Encode | Job::Draw | Job::Unpack => ("the row's buffer", "cells"),
+        Job::Read => ("the list's buffer", "symbols"),
+        Job::Spell => ("the text's buffer", "code points"),
+        Job::Scan | Job::Pack => ("the buffer", "bytes"),
+    };
+    write!(f, "{buffer} is too short, {m} {elements} are needed")
+}
+
+/// The words of the refusals that are about a row alone.
+fn bad_row(number: u32, m: usize, f: &mut fmt::Formatter<'_>) -> fmt::Result {
+    match number {
+        11 => write!(f, "the cell at place {m} is neither 0 nor 1"),
+        12 => write!(
+            f,
+            "block {m} is none of the 106 patterns and has an even number of bar cells: print again"
+        ),
+        14 => write!(f, "the check is wrong, {m} would be right"),
+        15 => write!(f, "the cell at place {m} is not the stop's"),
+        _ => write!(
+            f,
+            "block {m} is none of the 106 patterns and has an odd number of bar cells, as one worn \
+             cell can leave it: photograph again"
+        ),
+    }
+}
+
+/// The words of the refusals that are about a record.
+fn bad_record(number: u32, m: usize, f: &mut fmt::Formatter<'_>) -> fmt::Result {
+    match number {
+        20 => write!(f, "a record of {m} bytes has no head"),
+        21 => write!(f, "the record's version is {m}, neither 1 nor 2"),
+        22 if m == 0 => write!(
+            f,
+            "the record's count is missing, or none that its version has"
+        ),
+        22 => write!(
+            f,
+            "the record's length is not what its count needs, {m} bytes"
+        ),
+        _ => write!(f, "a spare bit is set in the last byte, at place {m}"),
+    }
+}
+
+#[cfg(feature = "std")]
+impl std::error::Error for Refusal {}

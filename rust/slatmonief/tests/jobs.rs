@@ -287,7 +287,7 @@ fn refusals_leave_the_buffer_and_speak() {
             encode(&points("ÀÀ"), &mut row),
             3,
             1,
-            "refusal 3: parsing stops at place 1",
+            "refusal 3: `À` has no number in set A, at place 1",
         ),
         (
             encode(&points("Ɓź"), &mut row),
@@ -655,4 +655,8 @@ fn the_signatures_of_barcoders() {
         Error::Character
     );
     assert_eq!(Error::Character.to_string(), "Barcode data is invalid");
+    let barcode = Code128::new("Ć12").unwrap();
+    assert_eq!(barcode, barcode.clone());
+    assert_ne!(barcode, Code128::new("Ć13").unwrap());
+    assert_eq!(barcode, Code128::new(String::from("Ć12")).unwrap());
 }

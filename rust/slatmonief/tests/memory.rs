@@ -1,12 +1,15 @@
 //! What the calls that return a `Vec` or a `String` reserve: by the length of the input, and no
 //! more than for the longest answer.
-use slatmonief::*;
+use slatmonief::sym::code128::Code128;
+use slatmonief::{error::Error, *};
 use std::alloc::{GlobalAlloc, Layout, System};
 use std::cell::Cell;
 
 thread_local! {
-    /// The most bytes that this thread has reserved at once since it was last set to 0.
+    /// The most bytes that this thread has reserved by one call since it was last set to 0.
     static MOST: Cell<usize> = const { Cell::new(0) };
+    /// The bytes that this thread has reserved in all since it was last set to 0.
+    static ALL: Cell<usize> = const { Cell::new(0) };
 }
 
 /// The system's allocator, which also notes what it is asked for.
@@ -14,6 +17,7 @@ struct Noted;
 
 fn note(size: usize) {
     MOST.with(|most| most.set(most.get().max(size)));
+    ALL.with(|all| all.set(all.get() + size));
 }
 
 // SAFETY: each call is the system's own.
@@ -45,6 +49,13 @@ fn noted<T>(call: impl FnOnce() -> T) -> (T, usize) {
     (result, MOST.with(Cell::get))
 }
 
+/// What a call returns, and the bytes that it reserves in all, given back or not.
+fn summed<T>(call: impl FnOnce() -> T) -> (T, usize) {
+    ALL.with(|all| all.set(0));
+    let result = call();
+    (result, ALL.with(Cell::get))
+}
+
 /// A label of 14 symbols: no call reserves more than its row of 178 cells, or a little over.
 #[test]
 fn a_short_label_reserves_little() {
@@ -64,7 +75,50 @@ fn a_short_label_reserves_little() {
     assert_eq!((cells.len(), most), (178, 184));
 }
 
-/// A million elements: no call reserves more than the longest answer takes. Encode copies the text.
+/// The text of a short label takes four bytes for each of its own, and its row is as long as it is.
+#[test]
+fn a_short_text_is_copied_once() {
+    let text = "ƁPARCEL-123456";
+    let (row, all) = summed(|| encode_str(text).unwrap());
+    assert_eq!((row.len(), all), (178, 4 * text.len() + 178));
+    let (barcode, all) = summed(|| Code128::new(text).unwrap());
+    assert_eq!((barcode.encode(), all), (row, 4 * text.len() + 178));
+}
+
+/// The longest text that goes to the library reserves its copy and the longest row.
+#[test]
+fn the_longest_text_reserves_the_bound() {
+    let bound = 4 * MOST_CODE_POINTS + MOST_CELLS;
+    let text = format!("Ć{}", "12".repeat(3_999));
+    let (row, all) = summed(|| encode_str(&text).unwrap());
+    assert_eq!((row.len(), all), (MOST_CELLS, bound));
+    for text in [&text[..text.len() - 1], &text.replace('1', "\u{1F600}")] {
+        let (refusal, all) = summed(|| encode_str(text).unwrap_err());
+        assert_eq!((refusal.number(), all), (3, bound));
+    }
+    let longer = format!("{text}1");
+    let (refusal, all) = summed(|| encode_str(&longer).unwrap_err());
+    assert_eq!((refusal.number(), all), (3, 0));
+}
+
+/// A text of 100 megabytes, Ɓ and 50 million times Ź, reserves nothing, whatever its refusal.
+#[test]
+fn a_text_of_100_megabytes_reserves_nothing() {
+    let mut text = format!("Ɓ{}", "Ź".repeat(50_000_000));
+    assert_eq!(text.len(), 100_000_002);
+    let (refusal, all) = summed(|| encode_str(&text).unwrap_err());
+    let numbers = (refusal.number(), refusal.second());
+    assert_eq!((numbers, all), ((4, 50_000_001), 0));
+    let (error, all) = summed(|| Code128::new(&text).unwrap_err());
+    assert_eq!((error, all), (Error::Length, 0));
+    text.push('é');
+    let (refusal, all) = summed(|| encode_str(&text).unwrap_err());
+    let numbers = (refusal.number(), refusal.second());
+    assert_eq!((numbers, all), ((3, 50_000_001), 0));
+    assert_eq!(refusal.offset(), Some(100_000_002));
+}
+
+/// A million elements: no call reserves more than the longest answer takes.
 #[test]
 fn no_input_reserves_more_than_the_limit() {
     let million = vec![1; 1_000_000];

@@ -8,10 +8,10 @@ use Rattle.label.proofs.drain.Statement.{statement}
 use Rattle.label.proofs.drain.Tie as tie
 
 abbrev Inv-loop : tie.InvT-loop
-Inv-loop chunk₀ line₀ out₀ len₀ used₀ turns₀ chunk line out len used turns = (length out ≡ length out₀) × (length chunk ≡ length chunk₀) × (length line ≡ length line₀) × (used + 22560 ≤ length out)
+Inv-loop chunk₀ line₀ out₀ len₀ used₀ answered₀ turns₀ chunk line out len used answered turns = (length out ≡ length out₀) × (length chunk ≡ length chunk₀) × (used + 22560 ≤ length out)
 
 abbrev μ-loop : tie.MeasureT-loop
-μ-loop chunk₀ line₀ out₀ len₀ used₀ turns₀ chunk line out len used turns = turns
+μ-loop chunk₀ line₀ out₀ len₀ used₀ answered₀ turns₀ chunk line out len used answered turns = turns
 
 loop-holds : tie.Need-loop-holds Inv-loop μ-loop
 loop-holds c = search needs
@@ -25,9 +25,6 @@ same-length c = search needs
 same-length-2 : tie.Need-same-length-2 Inv-loop μ-loop
 same-length-2 c = search needs
 
-same-length-3 : tie.Need-same-length-3 Inv-loop μ-loop
-same-length-3 c = search needs
-
 returns : tie.Need-returns Inv-loop μ-loop
 returns c = search needs
 
@@ -40,14 +37,11 @@ loop-less c = search needs
 loop-again : tie.Need-loop-again Inv-loop μ-loop
 loop-again c = search needs
 
+same-length-3 : tie.Need-same-length-3 Inv-loop μ-loop
+same-length-3 c = search needs
+
 same-length-4 : tie.Need-same-length-4 Inv-loop μ-loop
 same-length-4 c = search needs
-
-same-length-5 : tie.Need-same-length-5 Inv-loop μ-loop
-same-length-5 c = search needs
-
-same-length-6 : tie.Need-same-length-6 Inv-loop μ-loop
-same-length-6 c = search needs
 
 returns-2 : tie.Need-returns-2 Inv-loop μ-loop
 returns-2 c = search needs
@@ -62,12 +56,10 @@ drain-spec =
     turn-requires
     same-length
     same-length-2
-    same-length-3
     returns
     sub-turns
     loop-less
     loop-again
+    same-length-3
     same-length-4
-    same-length-5
-    same-length-6
     returns-2)

@@ -12,10 +12,10 @@ use Rattle.lines.proofs.feed.Statement.{statement}
 use Rattle.lines.proofs.feed.Tie as tie
 
 abbrev Inv-loop : tie.InvT-loop
-Inv-loop chunk from line₀ filled out₀ stored at₀ len₀ used₀ line out at len used = Feeding chunk from line₀ filled out₀ stored at line len out used
+Inv-loop chunk from line₀ filled out₀ stored at₀ len₀ used₀ new₀ line out at len used new = Feeding chunk from line₀ filled out₀ stored at line len out used new
 
 abbrev μ-loop : tie.MeasureT-loop
-μ-loop chunk from line₀ filled out₀ stored at₀ len₀ used₀ line out at len used = length chunk - at
+μ-loop chunk from line₀ filled out₀ stored at₀ len₀ used₀ new₀ line out at len used new = length chunk - at
 
 shorter-requires : tie.Need-shorter-requires Inv-loop μ-loop
 shorter-requires c κs = search needs
@@ -26,20 +26,14 @@ loop-holds c = feeding-begin (c .shorter .ensures)
 same-length : tie.Need-same-length Inv-loop μ-loop
 same-length c = search needs
 
-same-length-2 : tie.Need-same-length-2 Inv-loop μ-loop
-same-length-2 c = search needs
-
 returns : tie.Need-returns Inv-loop μ-loop
 returns c = feeding-full (c .before .before .loop .inv) (omega arith)
 
 sub-if2 : tie.Need-sub-if2 Inv-loop μ-loop
 sub-if2 c = search needs
 
-same-length-3 : tie.Need-same-length-3 Inv-loop μ-loop
-same-length-3 c = search needs
-
-same-length-4 : tie.Need-same-length-4 Inv-loop μ-loop
-same-length-4 c = search needs
+same-length-2 : tie.Need-same-length-2 Inv-loop μ-loop
+same-length-2 c = search needs
 
 returns-2 : tie.Need-returns-2 Inv-loop μ-loop
 returns-2 c = feeding-full (c .before .before .before .loop .inv) (omega arith)
@@ -47,14 +41,11 @@ returns-2 c = feeding-full (c .before .before .before .loop .inv) (omega arith)
 gather-requires : tie.Need-gather-requires Inv-loop μ-loop
 gather-requires c κs = search needs
 
-same-length-5 : tie.Need-same-length-5 Inv-loop μ-loop
-same-length-5 c = search needs
-
-same-length-6 : tie.Need-same-length-6 Inv-loop μ-loop
-same-length-6 c = search needs
+same-length-3 : tie.Need-same-length-3 Inv-loop μ-loop
+same-length-3 c = search needs
 
 returns-3 : tie.Need-returns-3 Inv-loop μ-loop
-returns-3 c = feeding-last (c .before .before .before .before .before .before .before .before .loop .inv) (c .before .before .before .gather .ensures .0) (c .if3 .taken)
+returns-3 c = feeding-last (c .before .before .before .before .before .before .loop .inv) (c .before .gather .ensures .0) (c .if3 .taken) (omega arith)
 
 sub-answer-line : tie.Need-sub-answer-line Inv-loop μ-loop
 sub-answer-line c = search needs
@@ -78,25 +69,25 @@ answer-line-requires : tie.Need-answer-line-requires Inv-loop μ-loop
 answer-line-requires c κs = search needs
 
 add-used : tie.Need-add-used Inv-loop μ-loop
-add-used c = let at = c .before .before .before .before .before .before .before .before .before .before .before .before .before .before .loop in
+add-used c = let at = c .before .before .before .before .before .before .before .before .before .before .before .before .before .loop in
     omega (arith, wrote-within (c .before .before .answer-line .ensures), mid-len (at .used) (length (at .out)) (at .out) (omega arith))
 
 add-at : tie.Need-add-at Inv-loop μ-loop
 add-at c = search needs
 
+add-new : tie.Need-add-new Inv-loop μ-loop
+add-new c = omega (arith, c .before .before .before .before .before .before .before .before .before .before .before .before .before .loop .inv .few)
+
 loop-less : tie.Need-loop-less Inv-loop μ-loop
 loop-less c = search needs
 
 loop-again : tie.Need-loop-again Inv-loop μ-loop
-loop-again c = let g = c .before .before .before .before .before .before .before .before .before in
+loop-again c = let g = c .before .before .before .before .before .before .before .before in
     let p = g .before .before .before .before .before .loop .inv in
     feeding-turn p (omega arith) (g .gather .ensures .0) (omega arith) (g .gather .ensures .1 (omega arith)) (answered _ (omega arith) (rw sub-zero at (c .before .before .answer-line .ensures)))
 
-same-length-7 : tie.Need-same-length-7 Inv-loop μ-loop
-same-length-7 c = search needs
-
-same-length-8 : tie.Need-same-length-8 Inv-loop μ-loop
-same-length-8 c = search needs
+same-length-4 : tie.Need-same-length-4 Inv-loop μ-loop
+same-length-4 c = search needs
 
 returns-4 : tie.Need-returns-4 Inv-loop μ-loop
 returns-4 c = feeding-done (c .before .loop .inv) (c .loop-test .left)
@@ -110,15 +101,12 @@ feed-spec =
     shorter-requires
     loop-holds
     same-length
-    same-length-2
     returns
     sub-if2
-    same-length-3
-    same-length-4
+    same-length-2
     returns-2
     gather-requires
-    same-length-5
-    same-length-6
+    same-length-3
     returns-3
     sub-answer-line
     part-answer-line-start
@@ -129,8 +117,8 @@ feed-spec =
     answer-line-requires
     add-used
     add-at
+    add-new
     loop-less
     loop-again
-    same-length-7
-    same-length-8
+    same-length-4
     returns-4)

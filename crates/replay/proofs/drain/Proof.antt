@@ -7,7 +7,7 @@ use Rattle.replay.proofs.drain.Statement.{statement}
 use Rattle.replay.proofs.drain.Tie as tie
 
 abbrev Inv-loop : tie.InvT-loop
-Inv-loop chunk₀ line₀ len₀ turns₀ chunk line len turns = (length chunk ≡ length chunk₀) × (length line ≡ length line₀)
+Inv-loop chunk₀ line₀ len₀ turns₀ chunk line len turns = length chunk ≡ length chunk₀
 
 abbrev μ-loop : tie.MeasureT-loop
 μ-loop chunk₀ line₀ len₀ turns₀ chunk line len turns = turns
@@ -21,9 +21,6 @@ turn-requires c κs = search needs
 same-length : tie.Need-same-length Inv-loop μ-loop
 same-length c = search needs
 
-same-length-2 : tie.Need-same-length-2 Inv-loop μ-loop
-same-length-2 c = search needs
-
 returns : tie.Need-returns Inv-loop μ-loop
 returns c = search needs
 
@@ -36,11 +33,8 @@ loop-less c = search needs
 loop-again : tie.Need-loop-again Inv-loop μ-loop
 loop-again c = search needs
 
-same-length-3 : tie.Need-same-length-3 Inv-loop μ-loop
-same-length-3 c = search needs
-
-same-length-4 : tie.Need-same-length-4 Inv-loop μ-loop
-same-length-4 c = search needs
+same-length-2 : tie.Need-same-length-2 Inv-loop μ-loop
+same-length-2 c = search needs
 
 returns-2 : tie.Need-returns-2 Inv-loop μ-loop
 returns-2 c = search needs
@@ -54,11 +48,9 @@ drain-spec =
     loop-holds
     turn-requires
     same-length
-    same-length-2
     returns
     sub-turns
     loop-less
     loop-again
-    same-length-3
-    same-length-4
+    same-length-2
     returns-2)

@@ -9,7 +9,7 @@ use Rattle.replay.proofs.pump.Statement.{statement}
 use Rattle.replay.proofs.pump.Tie as tie
 
 abbrev Inv-loop : tie.InvT-loop
-Inv-loop chunk line₀ len out₀ at₀ n₀ line out at n = (length out ≡ 22560) × (length line ≡ length line₀)
+Inv-loop chunk line₀ len out₀ at₀ n₀ line out at n = length out ≡ 22560
 
 abbrev μ-loop : tie.MeasureT-loop
 μ-loop chunk line₀ len out₀ at₀ n₀ line out at n = length chunk - at
@@ -36,13 +36,10 @@ show-requires : tie.Need-show-requires Inv-loop μ-loop
 show-requires c κs = search needs
 
 loop-less : tie.Need-loop-less Inv-loop μ-loop
-loop-less c = omega (arith, c .before .before .before .before .before .before .feed .ensures .feeds-on (omega arith) (omega arith))
+loop-less c = omega (arith, c .before .before .before .before .feed .ensures .feeds-on (omega arith) (omega arith))
 
 loop-again : tie.Need-loop-again Inv-loop μ-loop
 loop-again c = search needs
-
-same-length : tie.Need-same-length Inv-loop μ-loop
-same-length c = search needs
 
 returns : tie.Need-returns Inv-loop μ-loop
 returns c = search needs
@@ -62,5 +59,4 @@ pump-spec =
     show-requires
     loop-less
     loop-again
-    same-length
     returns)

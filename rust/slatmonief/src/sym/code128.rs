@@ -1,4 +1,5 @@
-//! Code 128 with the signatures of `barcoders::sym::code128`: change only the `use` line.
+//! Code 128 with the signatures of `barcoders::sym::code128`: change only the `use` lines, this one
+//! and that of `barcoders::error`.
 //!
 //! ```
 //! use slatmonief::sym::code128::*;
@@ -16,10 +17,14 @@
 //!
 //! [`crate::encode`] describes the data; [`crate::encode_str`] also says at which place the data
 //! cannot be encoded.
-use crate::error::{Error, Result};
+//!
+//! [`Error::Character`]: crate::error::Error::Character
+//! [`Error::Length`]: crate::error::Error::Length
+use crate::error::Result;
+use alloc::vec::Vec;
 
-/// A Code 128 barcode.
-#[derive(Debug)]
+/// A Code 128 barcode. Two are equal if their rows are.
+#[derive(Clone, Debug, PartialEq, Eq, Hash)]
 pub struct Code128(Vec<u8>);
 
 impl Code128 {
@@ -28,12 +33,11 @@ impl Code128 {
     /// Returns [`Error::Character`] if a character cannot be encoded at its place, a digit is left
     /// over, or the data has a ź (FNC2); and [`Error::Length`] if the data has fewer than two UTF-8
     /// bytes or needs more than 4,000 symbols.
+    ///
+    /// [`Error::Character`]: crate::error::Error::Character
+    /// [`Error::Length`]: crate::error::Error::Length
     pub fn new<T: AsRef<str>>(data: T) -> Result<Code128> {
-        match crate::encode_str(data.as_ref()) {
-            Ok(row) => Ok(Code128(row)),
-            Err(refusal) if matches!(refusal.number(), 3 | 19) => Err(Error::Character),
-            Err(_) => Err(Error::Length),
-        }
+        Ok(Code128(crate::encode_str(data.as_ref())?))
     }
 
     /// The cells of the barcode's row: 1 for a bar, 0 for a space.

@@ -22,9 +22,6 @@ loop-holds c = fed-none (omega arith)
 shared-slice-read-if1 : tie.Need-shared-slice-read-if1 Inv-loop μ-loop
 shared-slice-read-if1 c = search needs
 
-same-length : tie.Need-same-length Inv-loop μ-loop
-same-length c = search needs
-
 returns : tie.Need-returns Inv-loop μ-loop
 returns c = (c .before .before .before .loop .inv, λ h. c .if1 .taken)
 
@@ -41,10 +38,9 @@ loop-less : tie.Need-loop-less Inv-loop μ-loop
 loop-less c = search needs
 
 loop-again : tie.Need-loop-again Inv-loop μ-loop
-loop-again c = fed-then (c .before .before .before .before .before .before .before .before .loop .inv) (fed-byte (omega arith) (c .before .before .before .before .before .if1 .left) (omega arith) (c .before .before .push .ensures .0) (c .before .before .push .ensures .1))
-
-same-length-2 : tie.Need-same-length-2 Inv-loop μ-loop
-same-length-2 c = search needs
+loop-again c =
+    fed-then (c .before .before .before .before .before .before .loop .inv)
+    (fed-byte (omega arith) (c .before .before .before .if1 .left) (c .push .ensures .0) (c .push .ensures .1))
 
 returns-2 : tie.Need-returns-2 Inv-loop μ-loop
 returns-2 c = (c .before .loop .inv, λ h. absurd (omega arith))
@@ -57,12 +53,10 @@ gather-spec =
     μ-loop
     loop-holds
     shared-slice-read-if1
-    same-length
     returns
     shared-slice-read-push
     push-requires
     add-i
     loop-less
     loop-again
-    same-length-2
     returns-2)
