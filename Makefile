@@ -5,7 +5,7 @@
 # make test             runs all tests
 #
 # PREFIX is /usr/local where it is not given. libdir and includedir are folders below it, or others
-# (libdir=/usr/lib64). DESTDIR is put before every path, and into no file.
+# (libdir=/usr/local/lib64). DESTDIR is put before every path, and into no file.
 PREFIX ?= /usr/local
 prefix = $(PREFIX)
 libdir = $(prefix)/lib

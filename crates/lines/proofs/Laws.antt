@@ -165,8 +165,8 @@ first-front (c ∷ cs) y = by (eqb c 10) refl (newlines cs) (first-front cs y)
     by false e zero next = refl
     by false e (suc n) next = rw e (ap (λ (l : List ℕ). c ∷ l) next)
 
-go-on-behind : (input written lost : List ℕ) → output input ≡ written ++ lost → output input ≡ firstLines (newlines written) written ++ output (afterLines (newlines written) input)
-go-on-behind input written lost e =
+go-on-written : (input written lost : List ℕ) → output input ≡ written ++ lost → output input ≡ firstLines (newlines written) written ++ output (afterLines (newlines written) input)
+go-on-written input written lost e =
     go-on-all (newlines written) input
     ∙ ap (λ (l : List ℕ). firstLines (newlines written) l ++ output (afterLines (newlines written) input)) e
     ∙ ap (λ (l : List ℕ). l ++ output (afterLines (newlines written) input)) (first-front written lost)
@@ -201,7 +201,7 @@ laws =
       first-lines = first-some;
       first-after = first-rest;
       go-on = go-on-all;
-      go-on-after = go-on-behind;
+      go-on-after = go-on-written;
       cut-line = cut-whole;
       cut-first = λ cut h. cut-none [] cut h;
       run-ends = λ s l r. run-whole at-end s l r;

@@ -26,7 +26,7 @@ pub record Laws : Type 0 where
   -- first n lines of the input.
   pub go-on : (n : ℕ) (input : List ℕ) → output input ≡ firstLines n (output input) ++ output (afterLines n input)
   -- So after a failure, whatever part of the output was written: keep its whole lines, and go on
-  -- behind as many lines of the input.
+  -- after the same number of lines of the input.
   pub go-on-after : (input written lost : List ℕ) → output input ≡ written ++ lost → output input ≡ firstLines (newlines written) written ++ output (afterLines (newlines written) input)
   -- Where a read fails, what is written is what the whole lines before give, and nothing is written
   -- for the line that was cut.
