@@ -36,7 +36,7 @@ libdir=$(patsubst $(top)/%,$${prefix}/%,$(lib))
 includedir=$(patsubst $(top)/%,$${prefix}/%,$(inc))
 
 Name: slatmonief
-Description: Code 128 rows, written and read, every function proved
+Description: Code 128 and EAN-13 rows, written and read, every function proved
 Version: $(VERSION)
 Cflags: -I$${includedir}
 Libs: -L$${libdir} -lslatmonief

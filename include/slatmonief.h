@@ -1,38 +1,46 @@
-/* Code 128 rows: written, read, spelled, scanned, packed and unpacked. Each of the seven calls is
- * proved to do what this file says, for every input. What is plain C here, the names of the
- * refusals, slatmonief_words and SLATMONIEF_CELLS, is tested.
+/* Code 128 rows: written, read, spelled, scanned, packed and unpacked. EAN-13 rows: written and
+ * read. Each of the nine calls is proved to do what this file says, for every input. What is plain
+ * C here, the names of the refusals, slatmonief_words and SLATMONIEF_CELLS, is tested.
  *
  * Link with libslatmonief.a (x86-64 Linux). C99 and later, and C++.
  *
- * Words. A cell is a byte, 1 for bar and 0 for space. A symbol list is a START number (103, 104 or
- * 105) and then data numbers 0 to 102, without the check; its length n is 1 to 4,000. A row has
- * 11(n+1)+13 cells. Places count from 0. Before version 1.4.0 n was 1 to 255, and anything longer
- * was refused, by 4 or 10.
+ * Words. A cell is a byte, 1 for bar and 0 for space. Places count from 0.
+ *   - Code 128: a symbol list is a START number (103, 104 or 105) and then data numbers 0 to 102,
+ *     without the check; its length n is 1 to 4,000. A row has 11(n+1)+13 cells. Before version
+ *     1.4.0 n was 1 to 255, and anything longer was refused, by 4 or 10.
+ *   - EAN-13, since version 1.6.0: a number has 13 digits, the last of them its check digit. A
+ *     digit is an ASCII byte, '0' to '9'. A row has 95 cells.
+ *   Seven calls are for Code 128; the two for EAN-13 have ean13 in their names. No row is of both
+ *   kinds: no Code 128 row has 95 cells.
  *
  * Answers. Every call returns two numbers by value:
  *   - number is 0 where the call is accepted, and else the number of the refusal;
  *   - second depends on number. The comment of each call has a list of what it is after each
  *     refusal. After a 0 it is:
- *       call     from          to            second after a 0
- *       encode   code points   cells         n, the symbols; SLATMONIEF_CELLS(n) cells are written
- *       draw     symbols       cells         n, the symbols; SLATMONIEF_CELLS(n) cells are written
- *       read     cells         symbols       n, the symbols written
- *       spell    symbols       code points   the code points written
- *       scan     symbols       bytes         the bytes written
- *       pack     cells         a record      the bytes written
- *       unpack   a record      cells         the cells written
+ *     call         from         to           second after a 0
+ *     encode       code points  cells        n, the symbols; SLATMONIEF_CELLS(n) cells are written
+ *     draw         symbols      cells        n, the symbols; SLATMONIEF_CELLS(n) cells are written
+ *     read         cells        symbols      n, the symbols written
+ *     spell        symbols      code points  the code points written
+ *     scan         symbols      bytes        the bytes written
+ *     pack         cells        a record     the bytes written
+ *     unpack       a record     cells        the cells written
+ *     ean13_write  digits       cells        the cells written, always 95
+ *     ean13_read   cells        digits       the digits written, always 13
  *     So the length of a row is SLATMONIEF_CELLS(second) after encode and draw, and second itself
- *     after unpack.
+ *     after unpack and ean13_write.
  *
  * Buffers. An accepted call fills the front of the lent buffer and leaves every element after that
  * as it was. A refused call leaves the whole buffer as it was. No call reserves memory, keeps a
  * pointer or has state, so any number of threads may call at once, each with a buffer of its own.
+ * A text has no NUL at its end: none is written, and where one is given it counts as a character.
  *
  * What the caller has to keep, since C cannot check it:
  *   - each pointer is valid for as many elements as the length beside it says. Where the length is
  *     0 any pointer will do, NULL too, as an empty std::vector gives it: it is not followed;
  *   - input and output do not overlap;
- *   - a length counts elements, not bytes: text_len is a number of 32-bit code points.
+ *   - a length counts elements, not bytes: text_len is a number of 32-bit code points in encode and
+ *     spell. In the two calls for EAN-13 it is a number of bytes, since a digit is one.
  */
 #ifndef SLATMONIEF_H
 #define SLATMONIEF_H
@@ -40,22 +48,28 @@
 #include <stddef.h>
 #include <stdint.h>
 
-#define SLATMONIEF_VERSION "1.5.0"
+#define SLATMONIEF_VERSION "1.6.0"
 
-/* The cells of the row of n symbols: the length of a row after encode and draw. */
+/* The cells of the Code 128 row of n symbols: the length of a row after encode and draw. */
 #define SLATMONIEF_CELLS(n) (11 * ((n) + 1) + 13)
 
-/* Buffers of these lengths are never too short: for the cells of a row, the symbols of a list, the
- * code points that spell writes, the bytes that scan writes, and the bytes of a row record. Such
- * buffers are for static or heap memory rather than a small stack. A caller need not lend so much:
- * a shorter buffer is refused, by 5, only where the answer does not fit, and second is then the
- * length needed, 11(n+1)+13 cells for a row. Before version 1.4.0 the five were 2829, 255, 509, 508
- * and 356: a buffer of that length can be too short now (5) where the input was too long then. */
+/* For Code 128, buffers of these lengths are never too short: for the cells of a row, the symbols
+ * of a list, the code points that spell writes, the bytes that scan writes, and the bytes of a row
+ * record. Such buffers are for static or heap memory rather than a small stack. A caller need not
+ * lend so much: a shorter buffer is refused, by 5, only where the answer does not fit, and second
+ * is then the length needed, 11(n+1)+13 cells for a row. Before version 1.4.0 the five were 2829,
+ * 255, 509, 508 and 356: a buffer of that length can be too short now (5) where the input was too
+ * long then. */
 #define SLATMONIEF_MOST_CELLS 44024
 #define SLATMONIEF_MOST_SYMBOLS 4000
 #define SLATMONIEF_MOST_CODE_POINTS 7999
 #define SLATMONIEF_MOST_SCANNED 7998
 #define SLATMONIEF_MOST_RECORD 5506
+
+/* For EAN-13, the cells of a row and the digits of a number: buffers of these lengths are never too
+ * short. */
+#define SLATMONIEF_EAN13_CELLS 95
+#define SLATMONIEF_EAN13_DIGITS 13
 
 #ifdef __cplusplus
 extern "C" {
@@ -85,7 +99,11 @@ enum slatmonief_number {
     SLATMONIEF_NO_HEAD = 20,
     SLATMONIEF_NO_SUCH_VERSION = 21,
     SLATMONIEF_WRONG_COUNT = 22,
-    SLATMONIEF_SPARE_BIT = 23
+    SLATMONIEF_SPARE_BIT = 23,
+    SLATMONIEF_NO_SUCH_TEXT_LENGTH = 30,
+    SLATMONIEF_NO_DIGIT = 31,
+    SLATMONIEF_WRONG_CHECK_DIGIT = 32,
+    SLATMONIEF_NO_ROW = 33
 };
 
 /* The number of an answer in words: a constant string in ASCII for every number, and "unknown
@@ -100,7 +118,7 @@ static inline const char *slatmonief_words(uint32_t number)
         return "parsing stops: no START, no number in the set, or half a pair of digits";
     case SLATMONIEF_TOO_MANY_SYMBOLS: return "more than 4000 symbols are needed";
     case SLATMONIEF_BUFFER_TOO_SHORT: return "the buffer is too short";
-    case SLATMONIEF_NO_SUCH_LENGTH: return "no row or symbol list has this length";
+    case SLATMONIEF_NO_SUCH_LENGTH: return "no Code 128 row or symbol list has this length";
     case SLATMONIEF_NO_CELL: return "a cell is neither 0 nor 1";
     case SLATMONIEF_NO_PATTERN_EVEN:
         return "a block is none of the 106 patterns and has an even number of bar cells: print "
@@ -117,6 +135,10 @@ static inline const char *slatmonief_words(uint32_t number)
     case SLATMONIEF_WRONG_COUNT:
         return "the record's count is missing, none of its version, or not that of its length";
     case SLATMONIEF_SPARE_BIT: return "a spare bit is set in the last byte";
+    case SLATMONIEF_NO_SUCH_TEXT_LENGTH: return "no text of the symbology has this length";
+    case SLATMONIEF_NO_DIGIT: return "a byte of the text is no ASCII digit";
+    case SLATMONIEF_WRONG_CHECK_DIGIT: return "the check digit is wrong";
+    case SLATMONIEF_NO_ROW: return "the cells are no row of the symbology";
     default: return "unknown number";
     }
 }
@@ -239,6 +261,35 @@ slatmonief_answer slatmonief_pack(const uint8_t *row, size_t row_len, uint8_t *r
  *   5  row_len is too short                                 the cells needed
  */
 slatmonief_answer slatmonief_unpack(const uint8_t *record, size_t record_len, uint8_t *row, size_t row_len);
+
+/* EAN-13 write: an EAN-13 number to its row. To 12 digits the check digit is added; of 13 the last
+ * is verified. So a number gives the same row with its check digit and without. The 12 digits of a
+ * UPC-A number have their check digit already: put a '0' before them and give all 13.
+ * Accepted: second is 95, and 95 cells are written.
+ * Refused, in this order:
+ *   number, when                                            second
+ *   30 a length other than 12 and 13                        text_len
+ *   31 a byte that is no digit                              the place of the first
+ *   32 the last of 13 digits is not the check digit         the right one, as a number 0 to 9
+ *   5  row_len is too short                                 95
+ */
+slatmonief_answer slatmonief_ean13_write(const uint8_t *text, size_t text_len, uint8_t *row, size_t row_len);
+
+/* EAN-13 read: a row to the 13 digits of its number, of which the last is the check digit.
+ * Accepted: second is 13, and 13 digits are written. These rows are exactly those that ean13_write
+ * writes, and from the digits it writes the same row again.
+ * Refused, in this order:
+ *   number, when                                            second
+ *   33 a row that ean13_write never writes: a length other  0
+ *      than 95, a cell neither 0 nor 1, a wrong guard,
+ *      seven cells that draw no digit there, parities that
+ *      no first digit has, or a wrong check digit
+ *   5  text_len is too short                                13
+ * An accepted row with one worn cell (bar for space, or space for bar) is always refused, and so is
+ * one with the seven cells of one drawn digit changed to any other seven. A row taken upside down
+ * is refused too: turn its cells round and read again.
+ */
+slatmonief_answer slatmonief_ean13_read(const uint8_t *row, size_t row_len, uint8_t *text, size_t text_len);
 
 #ifdef __cplusplus
 }

@@ -1,4 +1,4 @@
-"""Reads captures by the C library: python3 capture.py [LIBRARY]
+"""Reads captures and EAN-13 rows by the C library: python3 capture.py [LIBRARY]
 
 LIBRARY is the shared library, which `make install-shared` puts into PREFIX/lib. Without it that of
 the environment variable SLATMONIEF_LIBRARY is taken, or else what the system finds.
@@ -9,9 +9,10 @@ import os
 import sys
 
 MOST_CELLS, MOST_SYMBOLS, MOST_SCANNED = 44024, 4000, 7998  # buffers that are never too short
-WORDS = {  # the refusals of unpack, read and scan, as slatmonief_words has them
+EAN13_CELLS, EAN13_DIGITS = 95, 13
+WORDS = {  # the refusals of unpack, read, scan and the two for EAN-13, as slatmonief_words has them
     5: "the buffer is too short",
-    10: "no row or symbol list has this length",
+    10: "no Code 128 row or symbol list has this length",
     11: "a cell is neither 0 nor 1",
     12: "a block is none of the 106 patterns and has an even number of bar cells: print again",
     13: "a number stands where it may not",
@@ -23,6 +24,10 @@ WORDS = {  # the refusals of unpack, read and scan, as slatmonief_words has them
     21: "the record's version is neither 1 nor 2",
     22: "the record's count is missing, none of its version, or not that of its length",
     23: "a spare bit is set in the last byte",
+    30: "no text of the symbology has this length",
+    31: "a byte of the text is no ASCII digit",
+    32: "the check digit is wrong",
+    33: "the cells are no row of the symbology",
 }
 
 
@@ -34,7 +39,8 @@ class Answer(ctypes.Structure):
 def load(path):
     """The library, its functions declared: pointer and length of the input, and of the buffer."""
     library = ctypes.CDLL(path)
-    for name in "draw", "encode", "pack", "read", "scan", "spell", "unpack":
+    for name in ("draw", "ean13_read", "ean13_write", "encode", "pack", "read", "scan", "spell",
+                 "unpack"):
         function = getattr(library, "slatmonief_" + name)
         function.argtypes = [ctypes.c_void_p, ctypes.c_size_t] * 2
         function.restype = Answer
@@ -60,6 +66,18 @@ def read(library, capture):
     return n, sent[:count].decode("ascii")
 
 
+def ean13_row(library, number):
+    """The row of an EAN-13 number, which is given as bytes, with its check digit or without."""
+    row, cells = call(library.slatmonief_ean13_write, number, len(number), EAN13_CELLS)
+    return row[:cells]
+
+
+def ean13_number(library, row):
+    """The EAN-13 number of a row, with its check digit."""
+    digits, count = call(library.slatmonief_ean13_read, row, len(row), EAN13_DIGITS)
+    return digits[:count].decode("ascii")
+
+
 def main():
     path = sys.argv[1] if sys.argv[1:] else os.environ.get("SLATMONIEF_LIBRARY")
     path = path or ctypes.util.find_library("slatmonief")
@@ -71,6 +89,12 @@ def main():
         try:
             n, text = read(library, capture)
             print(f'{name}: {n} symbols, a scanner sends "{text}"')
+        except ValueError as refusal:
+            print(f"{name}: {refusal}")
+    for name, number in [("a good", b"400638133393"), ("two digits exchanged", b"4006381333391")]:
+        try:
+            row = ean13_row(library, number)
+            print(f"{name}: {len(row)} cells, read as {ean13_number(library, row)}")
         except ValueError as refusal:
             print(f"{name}: {refusal}")
 

@@ -14,7 +14,9 @@ enum { INPUT = 4096, LENT = 40 << 20, SIZE = 48 << 20 }; /* longer than any that
     EACH(spell, uint8_t, uint32_t) \
     EACH(scan, uint8_t, uint8_t) \
     EACH(pack, uint8_t, uint8_t) \
-    EACH(unpack, uint8_t, uint8_t)
+    EACH(unpack, uint8_t, uint8_t) \
+    EACH(ean13_write, uint8_t, uint8_t) \
+    EACH(ean13_read, uint8_t, uint8_t)
 
 #define NUMBERED(name, from, to) number_##name,
 enum { FUNCTIONS(NUMBERED) no_number };

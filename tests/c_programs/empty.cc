@@ -5,7 +5,7 @@
 
 #include "slatmonief.h"
 
-int main()
+static int code128()
 {
     const std::vector<uint8_t> none;
     std::vector<uint8_t> row;
@@ -22,4 +22,28 @@ int main()
     const slatmonief_answer c = slatmonief_encode(text.data(), text.size(), row.data(), row.size());
     if (c.number != SLATMONIEF_ACCEPTED || SLATMONIEF_CELLS(c.second) != row.size()) return 3;
     return std::string(slatmonief_words(a.number)) == "the record has no head" ? 0 : 4;
+}
+
+// The same for EAN-13, whose digits are in strings.
+static int ean13()
+{
+    const std::string number = "4006381333931";
+    const uint8_t *digits = reinterpret_cast<const uint8_t *>(number.data());
+    std::vector<uint8_t> row, text;
+    slatmonief_answer a = slatmonief_ean13_read(row.data(), row.size(), text.data(), text.size());
+    if (a.number != SLATMONIEF_NO_ROW || a.second != 0) return 5;
+    a = slatmonief_ean13_write(digits, number.size(), row.data(), row.size());
+    if (a.number != SLATMONIEF_BUFFER_TOO_SHORT || a.second != SLATMONIEF_EAN13_CELLS) return 6;
+    row.resize(a.second);
+    a = slatmonief_ean13_write(digits, number.size(), row.data(), row.size());
+    if (a.number != SLATMONIEF_ACCEPTED || a.second != row.size()) return 7;
+    text.resize(SLATMONIEF_EAN13_DIGITS);
+    a = slatmonief_ean13_read(row.data(), row.size(), text.data(), text.size());
+    return a.number == 0 && std::string(text.begin(), text.end()) == number ? 0 : 8;
+}
+
+int main()
+{
+    const int status = code128();
+    return status != 0 ? status : ean13();
 }

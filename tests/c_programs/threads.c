@@ -1,5 +1,5 @@
 /* Calls from many threads at once: threads ROUNDS. Each of eight threads makes rounds of calls of
- * all seven jobs with buffers of its own, and the sum of the answers and of the buffers in each
+ * all nine jobs with buffers of its own, and the sum of the answers and of the buffers in each
  * round must be that of one thread alone. The status is 0, or tells the check that fails. It
  * declares what it calls of the C library where that has no headers, so that on Arm the program
  * also runs without the bridge. */
@@ -16,11 +16,13 @@ int atoi(const char *digits);
 #endif
 
 enum { THREADS = 8, MOST_ROUNDS = 10000, MOST = 300, CELLS = SLATMONIEF_CELLS(MOST), RECORD = 420 };
+enum { BARS = SLATMONIEF_EAN13_CELLS, DIGITS = SLATMONIEF_EAN13_DIGITS };
 
 struct work {
     uint64_t chance, sum, sums[MOST_ROUNDS];
     uint32_t text[MOST], spelled[2 * MOST];
     uint8_t row[CELLS], symbols[MOST], sent[2 * MOST], record[RECORD];
+    uint8_t digits[DIGITS], bars[BARS], number[DIGITS];
 };
 static struct work alone[THREADS], together[THREADS];
 static int rounds;
@@ -52,8 +54,8 @@ static size_t label(struct work *w)
     return n;
 }
 
-/* All seven jobs, there and back, and then with a damaged row and a damaged record. */
-static void one_round(struct work *w)
+/* The seven jobs of Code 128, there and back, and then with a damaged row and a damaged record. */
+static void code128(struct work *w)
 {
     size_t points = label(w);
     size_t n = add(w, slatmonief_encode(w->text, points, w->row, CELLS), w->row, CELLS);
@@ -70,11 +72,25 @@ static void one_round(struct work *w)
     add(w, slatmonief_unpack(w->record, bytes, w->row, CELLS), w->row, CELLS);
 }
 
+/* The two jobs of EAN-13, there and back, and then with a damaged number and a damaged row. */
+static void ean13(struct work *w)
+{
+    for (int i = 0; i < DIGITS; i++) w->digits[i] = (uint8_t)('0' + below(w, 10));
+    add(w, slatmonief_ean13_write(w->digits, DIGITS - 1, w->bars, BARS), w->bars, BARS);
+    add(w, slatmonief_ean13_read(w->bars, BARS, w->number, DIGITS), w->number, DIGITS);
+    add(w, slatmonief_ean13_write(w->digits, DIGITS, w->bars, BARS), w->bars, BARS);
+    w->digits[below(w, DIGITS)] ^= 1 + below(w, 255);
+    add(w, slatmonief_ean13_write(w->digits, DIGITS, w->bars, BARS), w->bars, BARS);
+    w->bars[below(w, BARS)] ^= 1;
+    add(w, slatmonief_ean13_read(w->bars, BARS, w->number, DIGITS), w->number, DIGITS);
+}
+
 static void *all_rounds(void *with)
 {
     struct work *w = with;
     for (int i = 0; i < rounds; i++) {
-        one_round(w);
+        code128(w);
+        ean13(w);
         w->sums[i] = w->sum;
     }
     return with;

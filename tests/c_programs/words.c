@@ -6,7 +6,7 @@
 
 #include "slatmonief.h"
 
-enum { PLACES = 18, CELLS = SLATMONIEF_CELLS(2) };
+enum { PLACES = 22, CELLS = SLATMONIEF_CELLS(2), BARS = SLATMONIEF_EAN13_CELLS };
 static const struct { uint32_t name, number; } named[PLACES] = {
     {SLATMONIEF_ACCEPTED, 0}, {SLATMONIEF_NO_SCALAR, 1}, {SLATMONIEF_TEXT_TOO_SHORT, 2},
     {SLATMONIEF_PARSING_STOPS, 3}, {SLATMONIEF_TOO_MANY_SYMBOLS, 4},
@@ -15,6 +15,8 @@ static const struct { uint32_t name, number; } named[PLACES] = {
     {SLATMONIEF_WRONG_SYMBOL, 13}, {SLATMONIEF_WRONG_CHECK, 14}, {SLATMONIEF_WRONG_STOP, 15},
     {SLATMONIEF_NO_PATTERN_ODD, 16}, {SLATMONIEF_RETIRED, 19}, {SLATMONIEF_NO_HEAD, 20},
     {SLATMONIEF_NO_SUCH_VERSION, 21}, {SLATMONIEF_WRONG_COUNT, 22}, {SLATMONIEF_SPARE_BIT, 23},
+    {SLATMONIEF_NO_SUCH_TEXT_LENGTH, 30}, {SLATMONIEF_NO_DIGIT, 31},
+    {SLATMONIEF_WRONG_CHECK_DIGIT, 32}, {SLATMONIEF_NO_ROW, 33},
 };
 static const uint32_t text[] = {0x181, 'A'};
 static const uint8_t list[] = {104, 33}, other[] = {104, 34};
@@ -107,6 +109,30 @@ static int unpacks(void)
     return unpacked(7, 0xFF, 8) == SLATMONIEF_SPARE_BIT;
 }
 
+/* The number that write of EAN-13 answers to a string, without its NUL. */
+static uint32_t goods(const char *digits)
+{
+    return slatmonief_ean13_write((const uint8_t *)digits, strlen(digits), row, BARS).number;
+}
+
+/* Whether the refusals of the calls for EAN-13 are those of their names. */
+static int ean13(void)
+{
+    uint8_t digits[SLATMONIEF_EAN13_DIGITS];
+    if (goods("40063813339") != SLATMONIEF_NO_SUCH_TEXT_LENGTH) return 0;
+    if (goods("400638133393x") != SLATMONIEF_NO_DIGIT) return 0;
+    if (goods("4006381333932") != SLATMONIEF_WRONG_CHECK_DIGIT) return 0;
+    if (goods("4006381333931") != SLATMONIEF_ACCEPTED) return 0;
+    slatmonief_answer a = slatmonief_ean13_read(row, BARS, digits, sizeof digits);
+    if (a.number != SLATMONIEF_ACCEPTED || a.second != sizeof digits) return 0;
+    if (memcmp(digits, "4006381333931", sizeof digits) != 0) return 0;
+    a = slatmonief_ean13_read(row, BARS, digits, sizeof digits - 1);
+    if (a.number != SLATMONIEF_BUFFER_TOO_SHORT || a.second != sizeof digits) return 0;
+    if (slatmonief_read(row, BARS, symbols, 2).number != SLATMONIEF_NO_SUCH_LENGTH) return 0;
+    a = slatmonief_ean13_read(row + 1, BARS, digits, sizeof digits);
+    return a.number == SLATMONIEF_NO_ROW && a.second == 0;
+}
+
 /* Whether SLATMONIEF_CELLS gives what draw says is needed, for every length of a list. */
 static int cells(void)
 {
@@ -126,7 +152,8 @@ int main(void)
     if (!written()) return 3;
     if (!read_back()) return 4;
     if (!unpacks()) return 5;
-    if (!cells()) return 6;
+    if (!ean13()) return 6;
+    if (!cells()) return 7;
     for (int i = 0; i < PLACES; i++)
         printf("%u %s\n", (unsigned)named[i].number, slatmonief_words(named[i].number));
     return 0;

@@ -1,16 +1,18 @@
-"""Makes crates/cases/stdin and crates/cases/stdout: calls of all seven jobs, and their answers.
+"""Makes crates/cases/stdin and crates/cases/stdout: calls of all nine jobs, and their answers.
 
     python3 tools/cases/make.py
 
 The calls are the labels of document 01, inputs on both sides of each limit, and from document 02
-the Shifts of request 1, the damaged rows of request 3, the lengths above 255 and the records of
-request 4 and the FNC2 of request 12. The program's buffers have 3,072 elements, room for rows of
-277 symbols, so the limit of 4,000 shows in unpack alone. The answers come from
-../examples/model.py, which is written from these documents (../examples/README.md says how). Where
-a document gives the answer, it is written here by hand and the model must agree.
+the Shifts of request 1, EAN-13 of request 2 with numbers printed in public, the damaged rows of
+request 3, the lengths above 255 and the records of request 4 and the FNC2 of request 12. The
+program's buffers have 3,072 elements, room for rows of 277 symbols, so the limit of 4,000 shows in
+unpack alone. The answers come from ../examples/model.py, which is written from these documents
+(../examples/README.md says how), and of EAN-13 from ean13.py. Where a document gives the answer, it
+is written here by hand and the model must agree.
 
 A line of stdin has the letter of a job, the length of the lent buffer, and the input, all numbers
-in upper-case hex. The letters are E encode, D draw, R read, S spell, N scan, P pack and U unpack.
+in upper-case hex. The letters are E encode, D draw, R read, S spell, N scan, P pack and U unpack of
+Code 128, and W write and T read of EAN-13.
 
 The same line of stdout has the two numbers of the answer in decimal, and then every element of the
 buffer in hex: two digits for each, without blanks; or for spell, whose elements are code points,
@@ -21,13 +23,14 @@ import sys
 
 REPOSITORY = os.path.dirname(os.path.dirname(os.path.dirname(os.path.abspath(__file__))))
 sys.path.insert(0, os.path.join(REPOSITORY, "tools", "examples"))
+import ean13
 import model
 from model import refuse
 
 CODE128 = os.path.join(REPOSITORY, "rust", "barcoders", "src", "sym", "code128.rs")
 model.load_patterns(CODE128)
 JOBS = {"E": model.encode, "D": model.draw, "R": model.read, "S": model.spell, "N": model.scan,
-        "P": model.pack, "U": model.unpack}
+        "P": model.pack, "U": model.unpack, "W": ean13.write, "T": ean13.read}
 LENT, ROOM, FULL = 3072, 2840, 0x77  # ROOM takes a row of 256 symbols
 asked, answered = [], []
 
@@ -298,8 +301,67 @@ ask("U", 2850, [2, 1, 1] + 356 * [0] + [32], refuse(5, 2851))
 for spare in (1, 16):
     ask("U", 40, [2, 1, 1] + 356 * [0] + [spare], refuse(23, 359))
 
-# the program reads no more than 131,072 bytes, and of a line its letter and 3,072 numbers
-assert sum(len(line) + 1 for line in asked) <= 131072
+# ---- Request 2 of document 02: EAN-13
+# Numbers printed in public: two that explain EAN-13, two that explain the ISBN, one that explains
+# UPC-A, with a 0 ahead, the example of barcoders' documentation, and a JAN. Each with its check and
+# without, and its row back.
+PRINTED = ["4006381333931", "5901234123457", "9783161484100", "9780306406157", "0036000291452",
+           "7501031311309", "4901234567894"]
+for number in PRINTED:
+    ask("W", 98, P(number), done(95))
+    ask("W", 95, P(number[:12]), done(95))
+    ask("T", 14, ean13.write(95, P(number))[2], done(13))
+    assert answered[-1].split()[2] == "".join("%02x" % c for c in P(number)) + "77"
+# each first digit, and each digit at each place
+for first in range(10):
+    text = P("%d" % first + "".join("%d" % ((first + i) % 10) for i in range(11)))
+    ask("W", 95, text, done(95))
+    ask("T", 13, ean13.write(95, text)[2], done(13))
+GOOD, ROW13 = P(PRINTED[0]), ean13.write(95, P(PRINTED[0]))[2]
+# 30: every length but 12 and 13, whatever the text and the room
+for length in (0, 1, 11, 14, 15, 95, 256):
+    ask("W", 100, length * [0x30], refuse(30, length))
+    ask("W", 0, length * [0x2F], refuse(30, length))
+# 31: the first byte that is not a digit, before the check and the room
+for place in range(13):
+    for byte in (0x2F, 0x3A, 0, 255):
+        ask("W", 0, changed(GOOD, place, byte), refuse(31, place))
+ask("W", 95, P("12345678901x") + [0x2F], refuse(31, 11))
+ask("W", 95, P("x2345678901x"), refuse(31, 0))
+# 32: any other check digit, before the room; the second number is the right one
+for digit in range(10):
+    wanted = done(95) if digit == 1 else refuse(32, 1)
+    ask("W", 95, changed(GOOD, 12, 0x30 + digit), wanted)
+ask("W", 0, changed(GOOD, 12, 0x30), refuse(32, 1))
+ask("W", 0, P("0000000000001"), refuse(32, 0))
+# 5
+for room in (0, 94):
+    ask("W", room, GOOD, refuse(5, 95))
+    ask("W", room, GOOD[:12], refuse(5, 95))
+for room in (0, 12):
+    ask("T", room, ROW13, refuse(5, 13))
+# 33: other lengths, another cell at every place, every other digit of each set for each drawn digit,
+# into no room too
+for length in list(range(0, 8)) + [35, 94, 96, 190]:
+    ask("T", 13, (ROW13 + ROW13)[:length], refuse(33, 0))
+    ask("T", 0, length * [1], refuse(33, 0))
+for place in range(95):
+    ask("T", 13, flipped(ROW13, place), refuse(33, 0))
+for place, value in ((0, 2), (3, 255), (47, 3), (94, 2), (1, 128)):
+    ask("T", 0, changed(ROW13, place, value), refuse(33, 0))
+for k in (0, 5, 6, 11):
+    at = 3 + 7 * k if k < 6 else 8 + 7 * k
+    for number_set in "ABC":
+        for digit in range(10):
+            cells = ean13.drawn(digit, number_set)
+            if cells != ROW13[at:at + 7]:
+                ask("T", 13, ROW13[:at] + cells + ROW13[at + 7:], refuse(33, 0))
+ask("T", 13, ROW13[::-1], refuse(33, 0))
+# two digits redrawn so that the check holds again: another number, which is read
+ask("T", 13, ean13.row_of([4, 0, 0, 6, 3, 8, 1, 3, 3, 3, 2, 2, 1]), done(13))
+
+# the program reads no more than 262,144 bytes, and of a line its letter and 3,072 numbers
+assert sum(len(line) + 1 for line in asked) <= 262144
 assert all(len(line.split()) <= 1 + LENT and int(line.split()[1], 16) <= LENT for line in asked)
 for name, lines in (("stdin", asked), ("stdout", answered)):
     with open(os.path.join(REPOSITORY, "crates", "cases", name), "w", encoding="ascii") as f:

@@ -1,8 +1,8 @@
-// Runs calls of all seven jobs, one for each line of its input, and writes what each answers and
-// what the lent buffer then holds: the labels of document 01 and their neighbours, and damaged
-// rows. It is no label program (crates/label is that): it shows what the label program cannot, the
-// other jobs and every element of lent memory. A line has a job's letter, the buffer's length and
-// the input, in upper-case hex:
+// Runs calls of all nine jobs, one for each line of its input, and writes what each answers and
+// what the lent buffer then holds: the labels of document 01 and their neighbours, numbers of
+// EAN-13, and damaged rows. It is no label program (crates/label is that): it shows what the label
+// program cannot, the other jobs and every element of lent memory. A line has a job's letter, the
+// buffer's length and the input, in upper-case hex:
 //
 //     E 23 C0
 //
@@ -103,6 +103,8 @@ fn ask(letter: u8, text: &[u32], bytes: &[u8], out: &mut [u8]) -> Answer {
         b'N' => speller::scan(bytes, out),
         b'P' => record::pack(bytes, out),
         b'U' => record::unpack(bytes, out),
+        b'W' => ean::ean13::write(bytes, out),
+        b'T' => ean_reader::ean13::read(bytes, out),
         _ => code128::encode(text, out),
     }
 }
@@ -202,9 +204,9 @@ fn lines(input: &[u8]) {
     }
 }
 
-// Reads the whole input, which fits 131,072 bytes, and runs its calls.
+// Reads the whole input, which fits 262,144 bytes, and runs its calls.
 fn main() {
-    let mut input = [0u8; 131072];
+    let mut input = [0u8; 262144];
     let n = io::read_full(STDIN_FILENO, &mut input);
     lines(&input[0..n]);
 }

@@ -6,11 +6,13 @@ use mathlib.Core.Bool.{Bool, _&&_}
 use lib.Count.{ones}
 use lib.Dec.{T, leb, eqb}
 use lib.ListN.{length, getD}
-use Rattle.paper.specs.Iso15417.{pattern, same}
+use Rattle.helpers.specs.Answers.{same}
+use Rattle.paper.specs.Iso15417.{pattern}
 use Rattle.paper.specs.Jobs.{bits}
 use Rattle.helpers.proofs.Below.{below, at, and-left, and-right}
 use Rattle.paper.proofs.Computes.{iso15417-computes}
-use Rattle.paper.proofs.Table.{as-equal, as-least, as-same, table-pattern, table-rule, table-apart}
+use Rattle.paper.proofs.Table.{table-pattern, table-rule, table-apart}
+use Rattle.helpers.proofs.Same.{as-equal, as-least, as-same}
 use Rattle.code128.specs.Words.{wordsFrom, words, cellsOf, WordRule, WordsRule}
 use Rattle.code128.specs.Quads.{lowBytes, quadsFrom, quads, spreadOf}
 

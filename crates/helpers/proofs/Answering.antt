@@ -7,7 +7,7 @@ use Prim.Native.Nat.{ℕ, zero, suc, _<_, _≤_}
 use native.Mathlib.Omega.{arith}
 use native.Mathlib.Nat.{not-suc-le-zero, le-of-suc-le-suc}
 use lib.Dec.{leb, T}
-use lib.ListN.{length, getD, set}
+use lib.ListN.{length, getD, set, take, drop}
 use borrow.Author.Tests.{leb-true, le-leb, lt-leb}
 use Rattle.helpers.specs.Answers.{if_then_else_, Each, Answer, refuse, accept, Test, refuses, passes, _then_, ask, every, whole, into}
 
@@ -51,6 +51,16 @@ pub each-set : (P : ℕ → Type 0) (xs : List ℕ) (i m : ℕ) → Each P xs �
 each-set P [] i m a h = tt
 each-set P (x ∷ xs) zero m a h = (h, a .1)
 each-set P (x ∷ xs) (suc i) m a h = (a .0, each-set P xs i m (a .1) h)
+
+pub each-take : (P : ℕ → Type 0) (n : ℕ) (xs : List ℕ) → Each P xs → Each P (take n xs)
+each-take P zero xs a = tt
+each-take P (suc n) [] a = tt
+each-take P (suc n) (x ∷ xs) a = (a .0, each-take P n xs (a .1))
+
+pub each-drop : (P : ℕ → Type 0) (n : ℕ) (xs : List ℕ) → Each P xs → Each P (drop n xs)
+each-drop P zero xs a = a
+each-drop P (suc n) [] a = tt
+each-drop P (suc n) (x ∷ xs) a = each-drop P n xs (a .1)
 
 -- ---- acceptances
 

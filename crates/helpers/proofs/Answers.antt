@@ -6,7 +6,7 @@ use native.Mathlib.Omega.{arith}
 use lib.Dec.{eqb}
 use Rattle.helpers.specs.Answers.{if_then_else_}
 use Rattle.helpers.specs.declared.Refusal.{Refusal}
-use Rattle.helpers.specs.declared.Refusal.the-variants.{Scalar, Length, Character, Symbols, Room, Size, Cell, Pattern, Place, Check, Stop, Worn, Retired, Short, Version, Count, Spare}
+use Rattle.helpers.specs.declared.Refusal.the-variants.{Scalar, Length, Character, Symbols, Room, Size, Cell, Pattern, Place, Check, Stop, Worn, Retired, Short, Version, Count, Spare, TextLength, Digit, CheckDigit, Row}
 use Rattle.helpers.specs.declared.Answer.{Answer}
 use Rattle.helpers.specs.declared.Answer.the-variants.{Done, Refused}
 use Rattle.helpers.specs.Numbers.{refusalNumber, numberOf, secondOf}
@@ -17,7 +17,8 @@ refusalOf k =
     if eqb k 1 then Scalar else if eqb k 2 then Length else if eqb k 3 then Character else if eqb k 4 then Symbols else if eqb k 5 then Room else
     if eqb k 10 then Size else if eqb k 11 then Cell else if eqb k 12 then Pattern else if eqb k 13 then Place else if eqb k 14 then Check else
     if eqb k 15 then Stop else if eqb k 16 then Worn else if eqb k 19 then Retired else if eqb k 20 then Short else if eqb k 21 then Version else
-    if eqb k 22 then Count else Spare
+    if eqb k 22 then Count else if eqb k 23 then Spare else if eqb k 30 then TextLength else if eqb k 31 then Digit else
+    if eqb k 32 then CheckDigit else Row
 
 -- each refusal has a number of its own, and none has 0
 back : (r : Refusal) → (refusalOf (refusalNumber r) ≡ r) × (1 ≤ refusalNumber r)
@@ -39,6 +40,10 @@ back Short = (refl, omega arith)
 back Version = (refl, omega arith)
 back Count = (refl, omega arith)
 back Spare = (refl, omega arith)
+back TextLength = (refl, omega arith)
+back Digit = (refl, omega arith)
+back CheckDigit = (refl, omega arith)
+back Row = (refl, omega arith)
 
 pub answer-determined : (a b : Answer) → numberOf a ≡ numberOf b → secondOf a ≡ secondOf b → a ≡ b
 unfolding numberOf secondOf

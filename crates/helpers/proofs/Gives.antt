@@ -1,12 +1,13 @@
 -- A job's promise, made: by an answer that wrote nothing, handed on, or by an acceptance whose
 -- output was stored from place 0 on.
 -- Assumes nothing.
-use Prim.Native.Nat.{ℕ, _+_, _≤_}
+use Prim.Native.Nat.{ℕ, _+_, _-_, _≤_}
 use mathlib.Core.Path.{_≡_, refl, sym, ap, _∙_}
 use mathlib.Core.List.{List, [], _∷_, _++_}
 use native.Mathlib.Omega.{arith}
 use lib.ListN.{length, set, take, length-append}
-use lib.Seq.{sets}
+use borrow.Rule.Slice.PartMut.{midOf, putMid}
+use lib.Seq.{sets, length-sets}
 use Rattle.helpers.specs.Answers as Paper
 use Rattle.helpers.specs.Answers.{refuse, accept, number, second, after, Gave}
 use Rattle.helpers.specs.declared.Refusal.{Refusal}
@@ -16,6 +17,7 @@ use Rattle.helpers.specs.Numbers.{refusalNumber, numberOf, secondOf}
 use Rattle.helpers.specs.Contracts.{answers, bare, Stored}
 use Rattle.helpers.proofs.Answering.{refuse-not-accept, accept-number}
 use Rattle.helpers.proofs.Writes.{sets-then, sets-front, sets-prefix}
+use Rattle.helpers.proofs.Part.{part-stored}
 
 -- ---- a job's promise
 
@@ -82,3 +84,16 @@ pub stored-front : {vs buf out : List ℕ} {r : ℕ} → Stored vs buf 0 out r �
 stored-front {vs} {buf} {out} {r} p h n e =
     let long : n ≡ length vs = omega (arith, p .next) in
     ap (take n) (p .stored) ∙ sets-prefix buf vs n long (omega (arith, p .next))
+
+-- ---- parts of a list, stored one after the other
+
+pub nothing-stored : {l : List ℕ} → Stored [] l 0 l 0
+nothing-stored = record { stored = refl; next = refl }
+
+module _ {vs l l′ : List ℕ} {a : ℕ} (p : Stored vs l 0 l′ a) where
+  pub stored-length : length l′ ≡ length l
+  stored-length = ap length (p .stored) ∙ length-sets l 0 vs
+
+  -- the next part, to place e
+  pub part-then : {m : List ℕ} (b : List ℕ) (e : ℕ) → e ≡ a + length b → e ≤ length l → m ≡ sets (midOf a (e - a) l′) 0 b → Stored (vs ++ b) l 0 (putMid a (e - a) l′ m) e
+  part-then {m} b e h k f = stored-then p (stored-at b l′ _ a e (part-stored l′ m b a e (omega arith) (omega (arith, stored-length)) (omega arith) f) h)

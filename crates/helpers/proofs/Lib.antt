@@ -2,9 +2,12 @@ pub mod Computes
 pub mod Below
 pub mod Ahead
 pub mod Answering
+pub mod Same
 pub mod Owed
 pub mod Writes
 pub mod Part
 pub mod Seek
 pub mod Gives
 pub mod Answers
+pub mod Sums
+pub mod Readers

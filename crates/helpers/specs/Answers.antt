@@ -1,12 +1,19 @@
 -- What a job answers, of any symbology: its refusals in order, and the lent buffer afterwards.
 -- Document 01, "The seven jobs and their refusals". Assumes nothing.
-use Rattle.helpers.specs.Prelude.{ℕ, suc, _≡_, Bool, true, false, List, [], _∷_, _++_, leb, length, drop}
+use Rattle.helpers.specs.Prelude.{ℕ, suc, _≡_, Bool, true, false, _&&_, List, [], _∷_, _++_, leb, eqb, length, drop}
 
 infixr 10 if_then_else_
 -- the first where the test holds, and else the second
 abbrev pub if_then_else_ : {X : Type 0} → Bool → X → X → X
 if true then x else y = x
 if false then x else y = y
+
+-- are two lists the same, element by element?
+unfoldable pub same : List ℕ → List ℕ → Bool
+same [] [] = true
+same [] (y ∷ ys) = false
+same (x ∷ xs) [] = false
+same (x ∷ xs) (y ∷ ys) = eqb x y && same xs ys
 
 -- every element of a list has the property
 abbrev pub Each : (ℕ → Type 0) → List ℕ → Type 0

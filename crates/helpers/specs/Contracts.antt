@@ -2,6 +2,7 @@
 -- Assumes nothing.
 use Prim.Native.Nat.{ℕ, suc, _+_}
 use mathlib.Core.Path.{_≡_}
+use mathlib.Core.Logic.{_⊎_}
 use mathlib.Core.Bool.{Bool}
 use mathlib.Core.List.{List, [], _∷_}
 use lib.ListN.{length}
@@ -17,6 +18,10 @@ use Rattle.helpers.specs.Numbers.{refusalNumber}
 unfoldable pub firstNot : (ℕ → Bool) → ℕ → List ℕ → ℕ
 firstNot good at [] = at
 firstNot good at (x ∷ xs) = if good x then firstNot good (suc at) xs else at
+
+-- one of the two weights of a check digit by modulo 10
+abbrev pub Turn : ℕ → Type 0
+Turn w = (w ≡ 1) ⊎ (w ≡ 3)
 
 -- what the code's answer is where nothing was written
 unfoldable pub answers : Answer → Paper.Answer

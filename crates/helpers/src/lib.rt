@@ -1,9 +1,12 @@
-// The common floor of every symbology: what a job answers, and writing into a part of a lent
-// buffer, after `join_slices` of `src/sym/helpers.rs` of barcoders 2.0.0, which returns a new
-// vector there.
-ghost use Prim.Native.Nat.{_<_, min};
+// The common floor of every symbology: what a job answers, and after `src/sym/helpers.rs` of
+// barcoders 2.0.0 the check digit by modulo 10, and writing into a part of a lent buffer, where
+// `join_slices` returns a new vector.
+ghost use Prim.Native.Nat.{_<_, _≤_, min};
+ghost use lib.ListN.{length};
 ghost use mathlib.Core.Path.{_≡_};
 ghost use lib.Seq.{sets};
+ghost use Rattle.helpers.specs.Modulo10.{inTurn, firstWeight, modulo10};
+ghost use Rattle.helpers.specs.Contracts.{Turn};
 ghost use Rattle.helpers.specs.Numbers.{refusalNumber, numberOf, secondOf};
 
 // Why a job refuses: the refusals of documents 01 and 02 by name, in the order of their numbers.
@@ -42,6 +45,14 @@ pub enum Refusal {
     Count,
     // 23: a spare bit that is set.
     Spare,
+    // 30: a text of a length that the symbology does not have.
+    TextLength,
+    // 31: a character that is not a digit.
+    Digit,
+    // 32: a wrong check digit.
+    CheckDigit,
+    // 33: not a row of the symbology.
+    Row,
 }
 
 // Accepted with a number, or refused with a second number.
@@ -73,6 +84,10 @@ impl Refusal {
             Refusal::Version => 21,
             Refusal::Count => 22,
             Refusal::Spare => 23,
+            Refusal::TextLength => 30,
+            Refusal::Digit => 31,
+            Refusal::CheckDigit => 32,
+            Refusal::Row => 33,
         }
     }
 }
@@ -126,4 +141,47 @@ pub fn wide(x: u8) -> usize
     ensures { λ r. ⌜ (r ≡ x) × (r < 256) ⌝ }
 {
     x as usize
+}
+
+// The weight of the first digit, where 1 and 3 weigh in turn.
+fn first_weight(even_start: bool) -> u32
+    ensures { λ r. ⌜ r ≡ firstWeight «even_start» ⌝ }
+{
+    if even_start {
+        return 1;
+    }
+    3
+}
+
+// The sum of at most 1,000 digits, where 1 and 3 weigh in turn and the first digit weighs `first`.
+fn sum_in_turn(part: &[u8], first: u32) -> u32
+    requires { ⌜ (length (now part) ≤ 1000) × Turn first ⌝ }
+    ensures { λ r. ⌜ (r ≡ inTurn first (now (part .entry))) × (r ≤ 765000) ⌝ }
+{
+    let mut sum: u32 = 0;
+    let mut weight = first;
+    let mut i: usize = 0;
+    while i < part.len() {
+        sum += weight * (part[i] as u32);
+        weight = 4 - weight;
+        i += 1;
+    }
+    sum
+}
+
+// The check digit by modulo 10: what a sum lacks to a multiple of ten, where 1 and 3 weigh in turn,
+// 1 first if `even_start`. The sum is made in parts of 1,000 digits, an even number, and only its
+// last digit is kept, so that no number of digits is too many.
+pub fn modulo_10_checksum(data: &[u8], even_start: bool) -> u8
+    ensures { λ r. ⌜ r ≡ modulo10 «even_start» (now («data» .entry)) ⌝ }
+{
+    let weight = first_weight(even_start);
+    let mut sum: u32 = 0;
+    let mut at: usize = 0;
+    while at < data.len() {
+        let end = at + shorter(data.len() - at, 1000);
+        sum = (sum + sum_in_turn(&data[at..end], weight)) % 10;
+        at = end;
+    }
+    ((10 - sum) % 10) as u8
 }

@@ -20,7 +20,7 @@ use Rattle.paper.specs.Rules.{spot, differences, writes, sends, switches
 use Rattle.paper.specs.Jobs.{scan}
 use Rattle.helpers.proofs.Answering.{and-true, each-append, accept-output}
 use Rattle.helpers.proofs.Below.{below, at as each-below, and-left, and-right}
-use Rattle.paper.proofs.Table.{as-equal, as-least}
+use Rattle.helpers.proofs.Same.{as-equal, as-least}
 use Rattle.paper.proofs.Lists.{symbol-list}
 
 -- ---- the standard's table

@@ -2,7 +2,7 @@
 -- file of specs/, and of the files that it stands on.
 -- Assumes nothing.
 use Rattle.helpers.proofs.Computes.{answers-computes}
-use Rattle.paper.specs.Iso15417.{points, widths, barOf, spaceOf, drawn, pattern, stop, same, barCells, wornOrUnknown, foundIn, found, weighed, check, cells, row, next, digits, sent, startOf, isShift, other, readIn, scannedFrom, scanned, count, printed, column}
+use Rattle.paper.specs.Iso15417.{points, widths, barOf, spaceOf, drawn, pattern, stop, barCells, wornOrUnknown, foundIn, found, weighed, check, cells, row, next, digits, sent, startOf, isShift, other, readIn, scannedFrom, scanned, count, printed, column}
 use Rattle.paper.specs.Crate.{utf8Of, utf8Bytes, isScalar, inBoth, spans, numberIn, pointIn, digit, pairs, listed, step, withSymbol, follow, finished, parseFrom, parse, asList, letters, spellFrom, spelled}
 use Rattle.paper.specs.Settle.{switched, moved, added, leftOver, settleFrom, settle, splits, insideFrom, inside, occurrences, withoutŹ}
 use Rattle.paper.specs.Chars.{chars, entry}
@@ -13,7 +13,7 @@ use Rattle.paper.specs.Labels.{symbolsAndCheck, starred, expected, answe
 use Rattle.paper.specs.Damage.{blocksOf, blockAt, over, redrawn, blind, acceptedIf, verdict, flipped, flippedVerdict, exchanged, exchangedList, exchangedVerdict}
 
 unfoldable pub iso15417-computes : Unit {0}
-unfolding widths barOf spaceOf drawn pattern stop same barCells wornOrUnknown foundIn found weighed check cells row next digits sent startOf isShift other readIn scannedFrom scanned count printed column points answers-computes
+unfolding widths barOf spaceOf drawn pattern stop barCells wornOrUnknown foundIn found weighed check cells row next digits sent startOf isShift other readIn scannedFrom scanned count printed column points answers-computes
 iso15417-computes = tt
 
 unfoldable pub crate-computes : Unit {0}

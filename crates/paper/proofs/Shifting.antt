@@ -11,16 +11,16 @@ use lib.Dec.{eqb, leb}
 use lib.ListN.{length, getD, length-append}
 use borrow.Author.Tests.{lt-ltb, le-ltb, ne-eqb}
 use native.Mathlib.Decide.{decLt}
-use Rattle.helpers.specs.Answers.{if_then_else_, Test, refuses, passes, _then_, refuse, accept, whole, into}
+use Rattle.helpers.specs.Answers.{if_then_else_, same, Test, refuses, passes, _then_, refuse, accept, whole, into}
 use Rattle.helpers.specs.Contracts.{bare}
 use Rattle.helpers.proofs.Gives.{bare-refuse}
 use Rattle.helpers.proofs.Below.{at}
-use Rattle.paper.specs.Iso15417.{Set, before, A, B, C, SHIFT, same, column, digits, startOf, sent, isShift, other, readIn, next, scannedFrom, scanned}
+use Rattle.paper.specs.Iso15417.{Set, before, A, B, C, SHIFT, column, digits, startOf, sent, isShift, other, readIn, next, scannedFrom, scanned}
 use Rattle.paper.specs.Rules.{message}
 use Rattle.paper.specs.Jobs.{scan, ofList}
 use Rattle.paper.specs.Shift.{unshifted, scanUnshifted, setAfter, AOrB, hasShift, NoTextFirst}
 use Rattle.paper.proofs.Computes.{rules-computes}
-use Rattle.paper.proofs.Table.{as-equal, as-same}
+use Rattle.helpers.proofs.Same.{as-equal, as-same}
 use Rattle.paper.proofs.Codes.{next-low}
 
 -- ---- the reading at a list that is cut in two

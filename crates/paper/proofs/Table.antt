@@ -1,6 +1,6 @@
 -- The table of patterns: its rule by one computed test, and what a block is found as.
 -- Assumes nothing.
-use mathlib.Core.Path.{_≡_, refl, sym, ap, ap₂, _∙_}
+use mathlib.Core.Path.{_≡_, refl, sym, ap, _∙_}
 use mathlib.Core.Logic.{_≢_, _↔_, _⊎_, inl, inr}
 use mathlib.Core.Bool.{Bool, true, false, _&&_, not}
 use mathlib.Core.List.{List, [], _∷_}
@@ -9,47 +9,14 @@ use native.Mathlib.Omega.{arith}
 use native.Mathlib.Decide.{decLe}
 use lib.Dec.{leb, eqb, T}
 use lib.ListN.{length, getD, take}
-use borrow.Author.Tests.{leb-true, eqb-true, eq-eqb, ne-eqb}
-use Rattle.helpers.specs.Answers.{if_then_else_, Each}
-use Rattle.paper.specs.Iso15417.{widths, drawn, pattern, stop, same, barCells, Look, is, worn, unknown, wornOrUnknown, foundIn, found, cells, count}
+use borrow.Author.Tests.{eq-eqb, ne-eqb}
+use Rattle.helpers.specs.Answers.{if_then_else_, same, Each}
+use Rattle.paper.specs.Iso15417.{widths, drawn, pattern, stop, barCells, Look, is, worn, unknown, wornOrUnknown, foundIn, found, cells, count}
 use Rattle.paper.specs.Chars.{chars, entry}
 use Rattle.paper.proofs.Computes.{chars-computes, rules-computes}
 use Rattle.paper.specs.Rules.{runs, PatternRule, NoPattern}
-use Rattle.helpers.proofs.Answering.{true-not-false, and-true, truth}
 use Rattle.helpers.proofs.Below.{below, at, and-left, and-right}
-
--- ---- equal lists
-
-pub same-true : (xs ys : List ℕ) → same xs ys ≡ true → xs ≡ ys
-unfolding same
-same-true [] [] e = refl
-same-true [] (y ∷ ys) e = true-not-false (sym e)
-same-true (x ∷ xs) [] e = true-not-false (sym e)
-same-true (x ∷ xs) (y ∷ ys) e =
-    let both = and-true (eqb x y) (same xs ys) e in
-    ap₂ (λ (a : ℕ) (l : List ℕ). a ∷ l) (eqb-true x y (both .0)) (same-true xs ys (both .1))
-
-pub same-refl : (xs : List ℕ) → same xs xs ≡ true
-unfolding same
-same-refl [] = refl
-same-refl (x ∷ xs) = rw (eq-eqb x x refl) (same-refl xs)
-
-pub eq-same : (xs ys : List ℕ) → xs ≡ ys → same xs ys ≡ true
-eq-same xs ys e = rw e (same-refl ys)
-
--- ---- computed tests, as facts
-
-pub as-equal : (a b : ℕ) → T (eqb a b) → a ≡ b
-as-equal a b t = eqb-true a b (truth (eqb a b) t)
-
-pub as-least : (a b : ℕ) → T (leb a b) → a ≤ b
-as-least a b t = leb-true a b (truth (leb a b) t)
-
-pub as-same : (xs ys : List ℕ) → T (same xs ys) → xs ≡ ys
-as-same xs ys t = same-true xs ys (truth (same xs ys) t)
-
-as-other : (xs ys : List ℕ) → T (not (same xs ys)) → xs ≢ ys
-as-other xs ys t e = rw (eq-same xs ys e) at t
+use Rattle.helpers.proofs.Same.{same-true, as-equal, as-least, as-same, as-other}
 
 -- ---- what a block is found as
 

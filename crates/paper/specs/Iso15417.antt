@@ -3,7 +3,7 @@
 -- Document 01, "What is built", "Patterns and check", "Tokens and character sets", "Spelling and
 -- scanner reading"; document 02, requests 1 and 3. Assumes nothing.
 use Rattle.helpers.specs.Prelude.{ℕ, zero, suc, _+_, _-_, _*_, _/_, _%_, String, Bool, true, false, _&&_, List, [], _∷_, _++_, map, ltb, eqb, getD, replicate}
-use Rattle.helpers.specs.Answers.{if_then_else_}
+use Rattle.helpers.specs.Answers.{if_then_else_, same}
 use Prim.Native.Char.{code}
 use Prim.Native.String as S
 
@@ -47,13 +47,6 @@ pattern m = drawn (getD widths m 0)
 -- "The stop is 1100011101011", in the standard 2331112
 unfoldable pub stop : List ℕ
 stop = drawn 233111 ++ barOf 2
-
--- are two lists the same, element by element?
-unfoldable pub same : List ℕ → List ℕ → Bool
-same [] [] = true
-same [] (y ∷ ys) = false
-same (x ∷ xs) [] = false
-same (x ∷ xs) (y ∷ ys) = eqb x y && same xs ys
 
 -- how many cells are bar: the sum of cells 0 and 1
 unfoldable pub barCells : List ℕ → ℕ

@@ -2,8 +2,8 @@
 -- Document 01, "Patterns and check", "Tokens and character sets" and, for "none of the 106
 -- patterns", "The seven jobs and their refusals"; document 02, request 1. Assumes nothing.
 use Rattle.helpers.specs.Prelude.{ℕ, suc, _-_, _%_, _<_, _≤_, _≡_, _≢_, Bool, true, false, not, List, [], _∷_, _++_, eqb, length, getD, take}
-use Rattle.helpers.specs.Answers.{if_then_else_, Each}
-use Rattle.paper.specs.Iso15417.{Set, before, A, B, C, Meaning, ascii, pair, FNC, SHIFT, CODE, START, pattern, stop, same, barCells, next, digits, sent, isShift, column}
+use Rattle.helpers.specs.Answers.{if_then_else_, same, Each}
+use Rattle.paper.specs.Iso15417.{Set, before, A, B, C, Meaning, ascii, pair, FNC, SHIFT, CODE, START, pattern, stop, barCells, next, digits, sent, isShift, column}
 use Rattle.paper.specs.Crate.{À, Ɓ, Ć, Ź, ź, Ż, ż, Ž, letters}
 
 -- ---- the table

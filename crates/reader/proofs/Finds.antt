@@ -12,7 +12,8 @@ use lib.Dec.{eqb}
 use lib.ListN.{length, getD, take, drop, length-drop, drop-of-length-le}
 use lib.Seq.{drop-cons, length-take-le, getD-take, getD-drop}
 use borrow.Author.Tests.{eq-eqb, ne-eqb}
-use Rattle.paper.specs.Iso15417.{widths, pattern, same, is, wornOrUnknown, foundIn, found}
+use Rattle.helpers.specs.Answers.{same}
+use Rattle.paper.specs.Iso15417.{widths, pattern, is, wornOrUnknown, foundIn, found}
 use Rattle.paper.proofs.Table.{found-none, no-bar}
 use Rattle.code128.specs.Words.{words, cellsOf}
 use Rattle.code128.proofs.Words.{word-rule}

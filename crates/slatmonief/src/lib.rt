@@ -1,12 +1,13 @@
-// The C face of the seven jobs: the same contracts, with the answer by value. include/slatmonief.h
-// declares them.
+// The C face of the nine jobs, seven of Code 128 and two of EAN-13: the same contracts, with the
+// answer by value. include/slatmonief.h declares them.
 ghost use lib.ListN.{length};
 ghost use Rattle.helpers.specs.Answers.{Gave};
 ghost use Rattle.paper.specs.Jobs.{encode, draw, read, spell, scan, pack, unpack};
+ghost use Rattle.ean.specs.Ean13.{writeEan13, readEan13};
 ghost use Rattle.slatmonief.specs.Numbered.{Numbered};
 use helpers::Answer;
 
-// Document 01's two numbers: 0 and the number of an acceptance, or a refusal's number and its
+// The documents' two numbers: 0 and the number of an acceptance, or a refusal's number and its
 // second number.
 #[repr(C)]
 pub struct Numbers {
@@ -78,4 +79,20 @@ pub extern "C" fn slatmonief_unpack(record: &[u8], row: &mut [u8]) -> Numbers
     ensures { λ r. ⌜ Gave (unpack (length (now (row .entry))) (now («record» .entry))) (r .number) (r .second) (now (row .entry)) (now (row .exit)) ⌝ }
 {
     tell(record::unpack(record, row))
+}
+
+// Twelve ASCII digits, or thirteen with the check, to a row of EAN-13.
+#[no_mangle]
+pub extern "C" fn slatmonief_ean13_write(text: &[u8], row: &mut [u8]) -> Numbers
+    ensures { λ r. ⌜ Gave (writeEan13 (length (now (row .entry))) (now (text .entry))) (r .number) (r .second) (now (row .entry)) (now (row .exit)) ⌝ }
+{
+    tell(ean::ean13::write(text, row))
+}
+
+// A row of EAN-13 to its thirteen ASCII digits.
+#[no_mangle]
+pub extern "C" fn slatmonief_ean13_read(row: &[u8], text: &mut [u8]) -> Numbers
+    ensures { λ r. ⌜ Gave (readEan13 (length (now (text .entry))) (now (row .entry))) (r .number) (r .second) (now (text .entry)) (now (text .exit)) ⌝ }
+{
+    tell(ean_reader::ean13::read(row, text))
 }

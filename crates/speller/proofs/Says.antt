@@ -12,10 +12,11 @@ use borrow.Author.Tests.{lt-leb, le-leb}
 use Rattle.helpers.specs.Contracts.{Stored}
 use Rattle.helpers.proofs.Below.{at}
 use Rattle.helpers.proofs.Gives.{stored-one, stored-then}
-use Rattle.paper.specs.Iso15417.{Set, before, A, B, C, same, sent}
+use Rattle.helpers.specs.Answers.{same}
+use Rattle.paper.specs.Iso15417.{Set, before, A, B, C, sent}
 use Rattle.paper.specs.Crate.{Span, span, spans, asList, pointIn, letters}
 use Rattle.paper.proofs.Computes.{crate-computes}
-use Rattle.paper.proofs.Table.{as-same}
+use Rattle.helpers.proofs.Same.{as-same}
 use Rattle.speller.specs.declared.Said.{Said}
 use Rattle.speller.specs.declared.Said.the-variants.{Nothing, One, Two}
 use Rattle.speller.specs.Walked.{saidOf, runsOf, ownOf}

@@ -1,4 +1,6 @@
-//! The inputs of times and tests: random labels of exactly n symbols, the same in every run.
+//! The inputs of times and tests: random labels of exactly n symbols, and random EAN-13 numbers,
+//! the same in every run.
+use slatmonief::ean13::write_str;
 use slatmonief::{draw_symbols, pack_row, spell_symbols};
 
 /// A small generator of random numbers (SplitMix64), so that every run has the same inputs.
@@ -117,4 +119,30 @@ pub fn labels(kind: Kind, n: usize, count: usize) -> Vec<Label> {
     (0..count)
         .map(|_| label(list(&mut random, kind, n)))
         .collect()
+}
+
+/// One EAN-13 number in every form that a job takes.
+pub struct Article {
+    /// Its thirteen digits.
+    pub text: String,
+    /// Its row.
+    pub row: Vec<u8>,
+}
+
+/// The EAN-13 number with these first twelve digits, in all its forms.
+pub fn article(twelve: &str) -> Article {
+    let row = write_str(twelve).expect("twelve digits");
+    let text = slatmonief::ean13::read_row(&row).expect("a row");
+    Article { text, row }
+}
+
+/// `count` random EAN-13 numbers, with any leading digit or with this one.
+pub fn articles(leading: Option<u8>, count: usize) -> Vec<Article> {
+    let mut random = Numbers::new(13);
+    let mut number = || {
+        let mut digits: Vec<u8> = (0..12).map(|_| b'0' + random.byte(10)).collect();
+        digits[0] = leading.map_or(digits[0], |leading| b'0' + leading);
+        article(std::str::from_utf8(&digits).expect("digits"))
+    };
+    (0..count).map(|_| number()).collect()
 }

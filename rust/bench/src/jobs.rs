@@ -1,4 +1,4 @@
-//! Times the seven jobs against plain Rust, and encode against the crate.
+//! Times the seven jobs of Code 128 against plain Rust, and encode against the crate.
 use crate::report::Table;
 use crate::timing::{measure, Side};
 use barcoders::sym::code128::Code128;
@@ -42,7 +42,7 @@ const PAGE: usize = 4096;
 const OF_CRATE: f64 = 0.06;
 
 /// The target for the library's time, as a part of plain Rust's time.
-const OF_PLAIN: f64 = 1.5;
+pub const OF_PLAIN: f64 = 1.5;
 
 /// A side that calls a job on its inputs, always with the same buffer.
 pub fn lent<'a, I, O, R>(inputs: &[&'a [I]], job: impl Fn(&[I], &mut [O]) -> R + 'a) -> Side<'a>
@@ -59,7 +59,7 @@ where
 }
 
 /// Asserts that both sides answer the same and leave the same buffer on every input.
-fn agree<I, O>(
+pub fn agree<I, O>(
     inputs: &[&[I]],
     job: impl Fn(&[I], &mut [O]) -> Result<usize, Refusal>,
     plain: impl Fn(&[I], &mut [O]) -> Answer,

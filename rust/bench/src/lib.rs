@@ -4,3 +4,4 @@ pub mod filter;
 pub mod inputs;
 pub mod patterns;
 pub mod plain;
+pub mod plain_ean13;

@@ -1,5 +1,6 @@
 //! Times the library against the crate and against plain Rust, and prints the tables of
 //! docs/BENCHMARKS.md: `cargo run --release -p bench [-- [PART...] [--rounds N]]`.
+mod ean13;
 mod growth;
 mod jobs;
 mod program;
@@ -11,8 +12,9 @@ use std::process::{Command, ExitCode};
 use std::{env, fs, io, thread};
 
 /// The parts of a run, in their order.
-const PARTS: [&str; 10] = [
-    "encode", "draw", "read", "spell", "scan", "pack", "unpack", "growth", "label", "memory",
+const PARTS: [&str; 11] = [
+    "encode", "draw", "read", "spell", "scan", "pack", "unpack", "ean13", "growth", "label",
+    "memory",
 ];
 
 /// The number of rounds, unless the command line gives another.
@@ -74,6 +76,7 @@ fn run(part: &str, rounds: usize) -> io::Result<(usize, Vec<String>)> {
         "scan" => jobs::scan(rounds),
         "pack" => jobs::pack(rounds),
         "unpack" => jobs::unpack(rounds),
+        "ean13" => ean13::run(rounds),
         "growth" => return Ok(growth::run(rounds)),
         "label" => program::time()?,
         _ => return program::memory().map(|_| (0, Vec::new())),

@@ -72,7 +72,7 @@ enum Said {
 }
 
 /// The two numbers of a result.
-fn answer(result: Result<usize, Answer>) -> Answer {
+pub(crate) fn answer(result: Result<usize, Answer>) -> Answer {
     match result {
         Ok(n) => (0, n),
         Err(refusal) => refusal,

@@ -1,9 +1,11 @@
 //! The plain jobs and the library's give the same answers, second numbers and buffers: on random
 //! and on damaged inputs, and with short and long buffers.
+use barcoders::sym::ean13::EAN13;
 use bench::filter;
-use bench::inputs::{label, list, Kind, Label, Numbers};
+use bench::inputs::{articles, label, list, Kind, Label, Numbers};
 use bench::plain::{self, Answer};
-use slatmonief::Refusal;
+use bench::plain_ean13;
+use slatmonief::{ean13, Refusal};
 use std::fmt::Debug;
 
 /// A job of the library, from a slice of `I` to a slice of `O`.
@@ -353,4 +355,80 @@ fn the_filter_answers_as_the_label_program() {
     let mut out = Vec::new();
     filter::run(retired.as_bytes(), &mut out).unwrap();
     assert_eq!(out, b"19 1\n3 ?\n3 ?\n19 301\n");
+}
+
+/// EAN-13: texts of any length, of digits and of other bytes, with the right check and with a wrong
+/// one.
+#[test]
+fn on_texts_of_ean13() {
+    let mut random = Numbers::new(5);
+    let mut seen = [0; 34];
+    for (round, article) in articles(None, 400).iter().enumerate() {
+        for text in [&article.text[..12], &article.text] {
+            let bytes = text.as_bytes();
+            let answer = same(bytes, 9, ean13::write, plain_ean13::write);
+            assert_eq!(answer, (0, 95));
+            assert_eq!(EAN13::new(text).unwrap().encode(), article.row);
+            let bad = damaged(&mut random, bytes, |random| b'0' - 1 + random.byte(12));
+            seen[same(&bad, 9, ean13::write, plain_ean13::write).0 as usize] += 1;
+        }
+        let mut text = article.text.clone().into_bytes();
+        text[round % 13] = b'0' + random.byte(10);
+        seen[same(&text, 9, ean13::write, plain_ean13::write).0 as usize] += 1;
+    }
+    assert!([0, 30, 31, 32].iter().all(|&number| seen[number] > 0));
+}
+
+/// EAN-13: rows that are damaged, each digit replaced by any seven cells, and each cell changed.
+#[test]
+fn on_rows_of_ean13() {
+    let mut random = Numbers::new(6);
+    let read = |row: &[u8]| {
+        let answer = same(row, 9, ean13::read, plain_ean13::read);
+        assert_eq!(same(row, 9, ean13::read, plain_ean13::table_read), answer);
+        answer
+    };
+    for article in &articles(None, 300) {
+        assert_eq!(read(&article.row), (0, 13));
+        read(&damaged(&mut random, &article.row, |random| random.byte(3)));
+    }
+    let row = &articles(None, 1)[0].row;
+    let mut accepted = 0;
+    for place in (3..45).chain(50..92).step_by(7) {
+        for word in 0..128 {
+            let mut row = row.clone();
+            (0..7).for_each(|cell| row[place + cell] = word >> cell & 1);
+            accepted += usize::from(read(&row).0 == 0);
+        }
+    }
+    assert_eq!(accepted, 12);
+    for place in 0..95 {
+        for cell in [1 - row[place], 2, 128, 255] {
+            let mut row = row.clone();
+            row[place] = cell;
+            assert_eq!(read(&row), (33, 0));
+        }
+    }
+}
+
+/// EAN-13: rows of digits of any sets, among which some are accepted, and rows of any cells.
+#[test]
+fn on_any_rows_of_ean13() {
+    let mut random = Numbers::new(7);
+    let sides = slatmonief::sym::ean13::ENCODINGS;
+    let good = &articles(None, 1)[0].row;
+    let mut accepted = 0;
+    for _ in 0..1000 {
+        let mut row = good.clone();
+        for (block, place) in (3..45).step_by(7).chain((50..92).step_by(7)).enumerate() {
+            let side = if block < 6 { random.below(2) } else { 2 };
+            row[place..place + 7].copy_from_slice(&sides[side][random.below(10)]);
+        }
+        let answer = same(&row, 9, ean13::read, plain_ean13::read);
+        assert_eq!(same(&row, 9, ean13::read, plain_ean13::table_read), answer);
+        accepted += usize::from(answer.0 == 0);
+        row.fill_with(|| random.byte(2));
+        assert_eq!(same(&row, 9, ean13::read, plain_ean13::read), (33, 0));
+    }
+    assert!(accepted > 0);
 }

@@ -1,13 +1,13 @@
 //! Compares one call with what it must answer, counts it, and keeps it in full if it differs.
 use crate::ask::{self, Crate, MOST_DRAWN};
+use crate::ean13;
 use crate::face::{Answer, Face};
 use crate::listed;
 use crate::model::{accept, cells, refuse, retired, Model, Said, LIMIT};
 use slatmonief::error::Error;
 use std::fmt::Debug;
 
-/// What is compared: one of the seven jobs, one of the laws between them, or a count over a whole
-/// part.
+/// What is compared: one of the jobs, one of the laws between them, or a count over a whole part.
 #[derive(Clone, Copy, Debug, PartialEq, Eq)]
 pub enum Subject {
     /// Encode, compared with the crate.
@@ -39,12 +39,20 @@ pub enum Subject {
     RowLaw,
     /// A record that is unpacked: pack gives it back.
     RecordLaw,
+    /// Write of EAN-13, compared with the crate and with a model.
+    Ean13Write,
+    /// Read of EAN-13, compared with a model.
+    Ean13Read,
+    /// The type for EAN-13 with the crate's signatures, compared with the crate.
+    Ean13Type,
+    /// A text that is written as EAN-13: its row is read, and what is read is written again.
+    Ean13Law,
     /// A count or a set over a whole part; the input is only shown.
     Count,
 }
 
 /// Every subject that can be compared again, and its name on the command line.
-pub const SUBJECTS: [(&str, Subject); 13] = [
+pub const SUBJECTS: [(&str, Subject); 17] = [
     ("encode", Subject::Encode),
     ("drop-in", Subject::DropIn),
     ("draw", Subject::Draw),
@@ -58,6 +66,10 @@ pub const SUBJECTS: [(&str, Subject); 13] = [
     ("shift-law", Subject::ShiftLaw),
     ("row-law", Subject::RowLaw),
     ("record-law", Subject::RecordLaw),
+    ("ean13-write", Subject::Ean13Write),
+    ("ean13-read", Subject::Ean13Read),
+    ("ean13-type", Subject::Ean13Type),
+    ("ean13-law", Subject::Ean13Law),
 ];
 
 /// The calls with more than 255 symbols that are counted once they are accepted, and how a run
@@ -89,15 +101,18 @@ pub struct Fault {
 /// The answer number of a right answer (0 is accepted), or the difference.
 pub type Outcome = Result<u32, Box<Fault>>;
 
+/// The refusals have numbers below this.
+pub const NUMBERS: usize = 34;
+
 /// How much was compared.
-#[derive(Clone, Debug, Default)]
+#[derive(Clone, Debug)]
 pub struct Tally {
     /// Texts, lists, rows and records that were tried; each counts once, with all its buffers.
     pub inputs: u64,
     /// Calls that were accepted.
     pub accepted: u64,
     /// Calls that were refused, by the number of the refusal.
-    pub refused: [u64; 24],
+    pub refused: [u64; NUMBERS],
     /// Laws that were tested, and held.
     pub laws: u64,
     /// Calls of the type with the crate's signatures.
@@ -108,6 +123,31 @@ pub struct Tally {
     pub long: [u64; LONG.len()],
     /// Calls of encode for each row of the list.
     pub listed: [u64; listed::LIST.len()],
+    /// Calls of write and of read of EAN-13 that were accepted.
+    pub ean13_accepted: [u64; 2],
+    /// Calls of the type for EAN-13 with the crate's signatures.
+    pub ean13_types: u64,
+    /// Calls of write of EAN-13 for each row of its list.
+    pub ean13_listed: [u64; ean13::LIST.len()],
+}
+
+impl Default for Tally {
+    /// Nothing.
+    fn default() -> Tally {
+        Tally {
+            inputs: 0,
+            accepted: 0,
+            refused: [0; NUMBERS],
+            laws: 0,
+            drop_in: 0,
+            undrawn: 0,
+            long: [0; LONG.len()],
+            listed: [0; listed::LIST.len()],
+            ean13_accepted: [0; 2],
+            ean13_types: 0,
+            ean13_listed: [0; ean13::LIST.len()],
+        }
+    }
 }
 
 impl Tally {
@@ -121,6 +161,9 @@ impl Tally {
         add_each(&mut self.refused, &other.refused);
         add_each(&mut self.long, &other.long);
         add_each(&mut self.listed, &other.listed);
+        add_each(&mut self.ean13_accepted, &other.ean13_accepted);
+        self.ean13_types += other.ean13_types;
+        add_each(&mut self.ean13_listed, &other.ean13_listed);
     }
 
     /// The number of calls.
@@ -135,6 +178,8 @@ impl Tally {
             return;
         }
         self.accepted += 1;
+        self.ean13_accepted[0] += u64::from(subject == Subject::Ean13Write);
+        self.ean13_accepted[1] += u64::from(subject == Subject::Ean13Read);
         let long = symbols_of(subject, length, second) > 255;
         let row = LONG.iter().position(|&(counted, _)| counted == subject);
         if let Some(row) = row.filter(|_| long) {
@@ -355,6 +400,33 @@ impl<'a> Worker<'a> {
             bytes: Vec::new(),
             points: Vec::new(),
         }
+    }
+
+    /// Compares a job that writes bytes with what it must answer.
+    pub(crate) fn bytes_job(
+        &mut self,
+        subject: Subject,
+        input: &[u8],
+        said: &Said<u8>,
+        room: usize,
+        mark: u8,
+        call: impl FnOnce(&mut [u8]) -> Answer,
+    ) -> Outcome {
+        let answer = lend(&mut self.bytes, room, mark, call);
+        if !agrees(&self.bytes, mark, answer, said) {
+            let buffer = &self.bytes;
+            return Err(fault(
+                subject,
+                wide(input),
+                room,
+                mark,
+                said,
+                answer,
+                buffer,
+            ));
+        }
+        self.tally.call(subject, input.len(), answer);
+        Ok(answer.0)
     }
 
     /// Counts an input of encode.

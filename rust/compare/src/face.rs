@@ -1,35 +1,67 @@
-//! The seven jobs as the comparison calls them: the true ones, and wrong ones that show that a run
-//! finds a wrong answer.
+//! The jobs as the comparison calls them: the true ones, and wrong ones of Code 128 that show that
+//! a run finds a wrong answer. Those of EAN-13 are in [`crate::ean13::wrong`].
 use crate::ask;
+use crate::ean13::ask::Typed;
 use crate::model::{self, Model, FNC2, LIMIT, NUMBER_OF_FNC2, STOP, SWITCH};
 use slatmonief::error::Error;
 use slatmonief::sym::code128::Code128;
+use slatmonief::sym::ean13::EAN13;
 
 /// The answer number and the second number.
 pub type Answer = (u32, usize);
 
-/// The seven jobs on lent slices.
+/// The jobs on lent slices, as the library does them. A face with a wrong answer has some of its
+/// own.
 pub trait Face: Sync {
     /// Code points to a row.
-    fn encode(&self, text: &[u32], row: &mut [u8]) -> Answer;
+    fn encode(&self, text: &[u32], row: &mut [u8]) -> Answer {
+        numbers(slatmonief::encode(text, row))
+    }
     /// A symbol list to a row.
-    fn draw(&self, list: &[u8], row: &mut [u8]) -> Answer;
+    fn draw(&self, list: &[u8], row: &mut [u8]) -> Answer {
+        numbers(slatmonief::draw(list, row))
+    }
     /// A row to a symbol list.
-    fn read(&self, row: &[u8], list: &mut [u8]) -> Answer;
+    fn read(&self, row: &[u8], list: &mut [u8]) -> Answer {
+        numbers(slatmonief::read(row, list))
+    }
     /// A symbol list to code points.
-    fn spell(&self, list: &[u8], text: &mut [u32]) -> Answer;
+    fn spell(&self, list: &[u8], text: &mut [u32]) -> Answer {
+        numbers(slatmonief::spell(list, text))
+    }
     /// A symbol list to the bytes of a scanner.
-    fn scan(&self, list: &[u8], bytes: &mut [u8]) -> Answer;
+    fn scan(&self, list: &[u8], bytes: &mut [u8]) -> Answer {
+        numbers(slatmonief::scan(list, bytes))
+    }
     /// A row to a record.
-    fn pack(&self, row: &[u8], record: &mut [u8]) -> Answer;
+    fn pack(&self, row: &[u8], record: &mut [u8]) -> Answer {
+        numbers(slatmonief::pack(row, record))
+    }
     /// A record to a row.
-    fn unpack(&self, record: &[u8], row: &mut [u8]) -> Answer;
+    fn unpack(&self, record: &[u8], row: &mut [u8]) -> Answer {
+        numbers(slatmonief::unpack(record, row))
+    }
     /// A text to a row, through the type with the crate's signatures.
-    fn code128(&self, text: &str) -> Result<Vec<u8>, Error>;
+    fn code128(&self, text: &str) -> Result<Vec<u8>, Error> {
+        Code128::new(text).map(|code| code.encode())
+    }
+    /// The digits of EAN-13 to a row.
+    fn ean13_write(&self, text: &[u8], row: &mut [u8]) -> Answer {
+        numbers(slatmonief::ean13::write(text, row))
+    }
+    /// A row of EAN-13 to its thirteen digits.
+    fn ean13_read(&self, row: &[u8], text: &mut [u8]) -> Answer {
+        numbers(slatmonief::ean13::read(row, text))
+    }
+    /// A text to a row of EAN-13 and to the debug output, through the type with the crate's
+    /// signatures.
+    fn ean13_type(&self, text: &str) -> Typed {
+        match EAN13::new(text) {
+            Ok(code) => Ok((code.encode(), format!("{code:?}"))),
+            Err(error) => Err(format!("{error:?}")),
+        }
+    }
 }
-
-/// The library itself.
-pub struct True;
 
 /// The two numbers of an answer of the library.
 fn numbers(answer: Result<usize, slatmonief::Refusal>) -> Answer {
@@ -39,32 +71,10 @@ fn numbers(answer: Result<usize, slatmonief::Refusal>) -> Answer {
     }
 }
 
-impl Face for True {
-    fn encode(&self, text: &[u32], row: &mut [u8]) -> Answer {
-        numbers(slatmonief::encode(text, row))
-    }
-    fn draw(&self, list: &[u8], row: &mut [u8]) -> Answer {
-        numbers(slatmonief::draw(list, row))
-    }
-    fn read(&self, row: &[u8], list: &mut [u8]) -> Answer {
-        numbers(slatmonief::read(row, list))
-    }
-    fn spell(&self, list: &[u8], text: &mut [u32]) -> Answer {
-        numbers(slatmonief::spell(list, text))
-    }
-    fn scan(&self, list: &[u8], bytes: &mut [u8]) -> Answer {
-        numbers(slatmonief::scan(list, bytes))
-    }
-    fn pack(&self, row: &[u8], record: &mut [u8]) -> Answer {
-        numbers(slatmonief::pack(row, record))
-    }
-    fn unpack(&self, record: &[u8], row: &mut [u8]) -> Answer {
-        numbers(slatmonief::unpack(record, row))
-    }
-    fn code128(&self, text: &str) -> Result<Vec<u8>, Error> {
-        Code128::new(text).map(|code| code.encode())
-    }
-}
+/// The library itself.
+pub struct True;
+
+impl Face for True {}
 
 /// A wrong answer that can be planted in the library.
 #[derive(Clone, Copy, Debug, PartialEq, Eq)]

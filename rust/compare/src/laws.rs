@@ -293,6 +293,10 @@ impl Worker<'_> {
             Subject::ShiftLaw => self.shift_law(&bytes),
             Subject::RowLaw => self.row_law(&bytes),
             Subject::RecordLaw => self.record_law(&bytes),
+            Subject::Ean13Write => self.ean13_write(&bytes, room, mark).map(drop),
+            Subject::Ean13Read => self.ean13_read(&bytes, room, mark).map(drop),
+            Subject::Ean13Type => self.ean13_type(&bytes),
+            Subject::Ean13Law => self.ean13_law(&bytes),
             Subject::Count => Ok(()),
         }
     }

@@ -2,6 +2,7 @@
 //! `part` names the parts that begin with it.
 use compare::ask;
 use compare::check::{Tally, Worker};
+use compare::ean13::wrong;
 use compare::face::{Face, True, Wrong, PLANTS};
 use compare::model::Model;
 use compare::run::Run;
@@ -59,11 +60,15 @@ fn face(asked: &Asked) -> Result<Box<dyn Face>, String> {
     let Some(name) = &asked.wrong else {
         return Ok(Box::new(True));
     };
-    match PLANTS.iter().find(|(known, _)| known == name) {
-        Some(&(_, plant)) => Ok(Box::new(Wrong::new(plant))),
-        None => Err(format!(
-            "--wrong takes one of {}",
-            PLANTS.map(|(name, _)| name).join(" ")
+    let code128 = PLANTS.iter().find(|(known, _)| known == name);
+    let ean13 = wrong::PLANTS.iter().find(|(known, _)| known == name);
+    match (code128, ean13) {
+        (Some(&(_, plant)), _) => Ok(Box::new(Wrong::new(plant))),
+        (_, Some(&(_, plant))) => Ok(Box::new(wrong::Wrong(plant))),
+        (None, None) => Err(format!(
+            "--wrong takes one of {} {}",
+            PLANTS.map(|(name, _)| name).join(" "),
+            wrong::PLANTS.map(|(name, _)| name).join(" ")
         )),
     }
 }
@@ -93,45 +98,46 @@ fn wanted(asked: &Asked, part: &Part) -> bool {
             .any(|name| part.name.starts_with(name.as_str()))
 }
 
-/// Does every part that is asked for and prints a line for it; the first difference ends the run.
-fn whole_run(asked: &Asked, run: &Run) -> Result<(), String> {
-    let (begun, mut total, mut rest) = (Instant::now(), Tally::default(), Tally::default());
-    for part in PARTS.iter().filter(|part| wanted(asked, part)) {
-        let part_begun = Instant::now();
-        let tally = compare::compare(part, run).map_err(|faults| {
-            let wrong = asked
-                .wrong
-                .iter()
-                .map(|name| format!(" --wrong {name}"))
-                .collect::<String>();
-            report::fault_lines(
-                part.name,
-                &faults.1,
-                &faults.0,
-                &wrong,
-                asked.seed,
-                asked.random,
-            )
-        })?;
-        if tally.inputs == 0 {
-            return Err(format!(
-                "part {} compared no input (--random {})",
-                part.name, asked.random
-            ));
-        }
-        println!(
-            "{}",
-            report::part_line(
-                part.name,
-                &tally,
-                asked.seed,
-                part_begun.elapsed().as_secs_f64()
-            )
-        );
-        if part.encode { &mut total } else { &mut rest }.add(&tally);
+/// Does one part and prints a line for it.
+fn one_part(asked: &Asked, run: &Run, part: &Part) -> Result<Tally, String> {
+    let begun = Instant::now();
+    let tally = compare::compare(part, run).map_err(|faults| {
+        let wrong = asked
+            .wrong
+            .iter()
+            .map(|name| format!(" --wrong {name}"))
+            .collect::<String>();
+        report::fault_lines(
+            part.name,
+            &faults.1,
+            &faults.0,
+            &wrong,
+            asked.seed,
+            asked.random,
+        )
+    })?;
+    if tally.inputs == 0 {
+        return Err(format!(
+            "part {} compared no input (--random {})",
+            part.name, asked.random
+        ));
     }
-    let (encode, others) = (total.inputs, rest.inputs);
-    total.add(&rest);
+    let seconds = begun.elapsed().as_secs_f64();
+    println!(
+        "{}",
+        report::part_line(part.name, &tally, asked.seed, seconds)
+    );
+    Ok(tally)
+}
+
+/// Does every part that is asked for; the first difference ends the run.
+fn whole_run(asked: &Asked, run: &Run) -> Result<(), String> {
+    let (begun, mut total, mut inputs) = (Instant::now(), Tally::default(), [0; 3]);
+    for part in PARTS.iter().filter(|part| wanted(asked, part)) {
+        let tally = one_part(asked, run, part)?;
+        inputs[part.kind as usize] += tally.inputs;
+        total.add(&tally);
+    }
     let unmet = if PARTS.iter().all(|part| wanted(asked, part)) {
         compare::unmet(&total)
     } else {
@@ -142,10 +148,9 @@ fn whole_run(asked: &Asked, run: &Run) -> Result<(), String> {
     }
     println!("{}", report::listed_line(&total));
     println!("{}", report::others_line(&total));
-    println!(
-        "{}",
-        report::total_line(encode, others, asked.seed, begun.elapsed().as_secs_f64())
-    );
+    println!("{}", report::ean13_line(&total));
+    let seconds = begun.elapsed().as_secs_f64();
+    println!("{}", report::total_line(inputs, asked.seed, seconds));
     Ok(())
 }
 

@@ -33,7 +33,7 @@ pub fn refuse<T>(number: u32, second: usize) -> Said<T> {
 }
 
 /// An accepted call, or refusal 5 if the front does not fit in the room.
-fn in_room<T>(room: usize, second: usize, front: Vec<T>) -> Said<T> {
+pub fn in_room<T>(room: usize, second: usize, front: Vec<T>) -> Said<T> {
     if room < front.len() {
         return refuse(5, front.len());
     }

@@ -1,6 +1,7 @@
 //! The lines that a run prints.
 use crate::ask::MOST_DRAWN;
 use crate::check::{Fault, Subject, Tally, LONG, SUBJECTS};
+use crate::ean13;
 use crate::listed::LIST;
 
 /// The line of one part: how many inputs and calls, how many of these were accepted and refused by
@@ -21,8 +22,9 @@ pub fn part_line(name: &str, tally: &Tally, seed: u64, seconds: f64) -> String {
     if tally.laws > 0 {
         line += &format!("; laws held {}", tally.laws);
     }
-    if tally.drop_in > 0 {
-        line += &format!("; by the crate's signatures {}", tally.drop_in);
+    if tally.drop_in + tally.ean13_types > 0 {
+        let types = tally.drop_in + tally.ean13_types;
+        line += &format!("; by the crate's signatures {types}");
     }
     line + &format!(" (seed {seed}, {seconds:.1} s)")
 }
@@ -63,11 +65,27 @@ pub fn others_line(tally: &Tally) -> String {
     )
 }
 
-/// The last line of a run.
-pub fn total_line(encode: u64, rest: u64, seed: u64, seconds: f64) -> String {
+/// How many calls of EAN-13's write belong to each row of its list, how many calls of its jobs were
+/// accepted, and how many texts the type with the crate's signatures encoded.
+pub fn ean13_line(tally: &Tally) -> String {
+    let rows: Vec<String> = ean13::LIST
+        .iter()
+        .map(|&(listed, name)| format!("{name}: {}", tally.ean13_listed[listed as usize]))
+        .collect();
+    let [written, read] = tally.ean13_accepted;
     format!(
-        "compare: {encode} inputs for encode, {rest} for the rest, no difference that is not \
-         listed (seed {seed}, {seconds:.0} s)"
+        "EAN-13, calls of write under each row of docs/DIFFERENCES.md: {}; accepted calls of \
+         write: {written}; of read: {read}; texts by the type with the crate's signatures: {}",
+        rows.join("; "),
+        tally.ean13_types
+    )
+}
+
+/// The last line of a run: the inputs of each kind of part.
+pub fn total_line([encode, rest, ean13]: [u64; 3], seed: u64, seconds: f64) -> String {
+    format!(
+        "compare: {encode} inputs for encode, {rest} for the rest of Code 128, {ean13} for EAN-13, \
+         no difference that is not listed (seed {seed}, {seconds:.0} s)"
     )
 }
 

@@ -1,5 +1,6 @@
 //! Makes the input of a difference as small as possible.
 use crate::check::{Fault, Subject, Worker};
+use crate::ean13::model as ean13;
 use crate::model::{bytes_of, cells, head_of, LIMIT};
 
 /// The most calls that shrinking makes; a call on a long input counts as several.
@@ -34,7 +35,7 @@ pub fn shrink(worker: &mut Worker, fault: Fault) -> Fault {
     loop {
         let singly = shrinker.best.input.len() <= SINGLY;
         let removed = shrinker.recount() || (singly && shrinker.remove());
-        let lowered = singly && shrinker.lower();
+        let lowered = singly && (shrinker.redraw() || shrinker.lower());
         let shortened = shrinker.shorten();
         if !(removed || lowered || shortened) {
             break;
@@ -204,6 +205,44 @@ impl Shrinker<'_, '_> {
             input[place] = value;
             self.differs(&input, room, mark)
         })
+    }
+
+    /// Draws each digit of a row of EAN-13 lower, as far as it goes.
+    fn redraw(&mut self) -> bool {
+        if self.best.subject != Subject::Ean13Read || self.best.input.len() < ean13::CELLS {
+            return false;
+        }
+        let mut any = false;
+        for block in 0..ean13::BLOCKS {
+            any |= self.redraw_at(block);
+        }
+        any
+    }
+
+    /// Draws one digit lower in its set, with the same check or with any other.
+    fn redraw_at(&mut self, block: usize) -> bool {
+        let (input, room, mark) = (self.best.input.clone(), self.best.room, self.best.mark);
+        let drawn = |row: &mut [u32], block: usize, cells: [u8; 7]| {
+            row[ean13::place(block)..][..7].copy_from_slice(&cells.map(u32::from));
+        };
+        let is_drawn = |&(set, digit): &(ean13::Set, u8)| {
+            ean13::pattern(set, digit).map(u32::from) == input[ean13::place(block)..][..7]
+        };
+        let Some((set, digit)) = ean13::every().find(is_drawn) else {
+            return false;
+        };
+        let checks = std::iter::once(None).chain((0..10).map(Some));
+        (0..digit)
+            .flat_map(|lower| checks.clone().map(move |check| (lower, check)))
+            .any(|(lower, check)| {
+                let mut row = input.clone();
+                if let Some(check) = check {
+                    let check = ean13::pattern(ean13::Set::C, check);
+                    drawn(&mut row, ean13::BLOCKS - 1, check);
+                }
+                drawn(&mut row, block, ean13::pattern(set, lower));
+                row != input && self.differs(&row, room, mark)
+            })
     }
 
     /// Takes a shorter buffer, and the usual mark.

@@ -1,7 +1,7 @@
 //! A run must stop at a wrong answer and make its input small. Wrong answers are planted here, and
 //! the runs must find them.
 use compare::ask;
-use compare::check::{Fault, Subject, Tally};
+use compare::check::{Fault, Subject, Tally, NUMBERS};
 use compare::exchanged;
 use compare::face::{Face, Plant, True, Wrong};
 use compare::model::{cells, Model, LIMIT};
@@ -711,8 +711,11 @@ fn kinds_that_did_not_occur() {
         accepted: 1,
         long: [1; 4],
         drop_in: 1,
-        refused: [1; 24],
+        refused: [1; NUMBERS],
         listed: [1; 8],
+        ean13_accepted: [1; 2],
+        ean13_types: 1,
+        ean13_listed: [1; 3],
         ..Tally::default()
     };
     assert_eq!(unmet(&tally), [""; 0]);
@@ -721,7 +724,7 @@ fn kinds_that_did_not_occur() {
         unmet(&tally),
         ["refusal 23", "the row '÷ for DEL: number 95 in set B'"]
     );
-    (tally.refused, tally.listed, tally.long) = ([1; 24], [1; 8], [0; 4]);
+    (tally.refused, tally.listed, tally.long) = ([1; NUMBERS], [1; 8], [0; 4]);
     assert_eq!(
         unmet(&tally),
         [
@@ -731,7 +734,7 @@ fn kinds_that_did_not_occur() {
             "an accepted call of unpack from version 2"
         ]
     );
-    assert_eq!(unmet(&Tally::default()).len(), 2 + 4 + 17 + 8);
+    assert_eq!(unmet(&Tally::default()).len(), 2 + 3 + 4 + 21 + 8 + 3);
 }
 
 /// The report of a claim about a whole part says that its input was not made smaller.
@@ -755,6 +758,8 @@ fn the_true_face_passes_and_the_seed_alone_decides() {
         "lists-shift-random",
         "lists-retired",
         "records-random",
+        "ean13-random",
+        "ean13-rows",
     ] {
         let once = part_of(&True, part, 7, 1).expect("no difference");
         assert_eq!(once, part_of(&True, part, 7, 2).expect("no difference"));

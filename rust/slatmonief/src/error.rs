@@ -11,8 +11,8 @@ pub enum Error {
     Length,
     /// A picture cannot be made. This crate never returns it.
     Generate,
-    /// The check is wrong. This crate returns it only as what a [`Refusal`] of [`crate::read`]
-    /// becomes.
+    /// The check is wrong. This crate returns it for the check digit of an EAN-13 number, and as
+    /// what a [`Refusal`] of [`crate::read`] becomes.
     Checksum,
 }
 
@@ -20,14 +20,16 @@ pub enum Error {
 pub type Result<T> = ::core::result::Result<T, Error>;
 
 /// The error that stands for a refusal, so that `?` works in a function that returns [`Result`].
-/// [`Code128::new`](crate::sym::code128::Code128::new) uses it, where 2, 3, 19 and 4 occur.
+/// [`Code128::new`](crate::sym::code128::Code128::new) uses it, where 2, 3, 19 and 4 occur, and
+/// [`EAN13::new`](crate::sym::ean13::EAN13::new), where 30, 31 and 32 do.
 ///
 /// | Refusal | Error |
 /// |---|---|
-/// | 2, 4, 5, 10, 20, 22: a text, row, list, record or buffer is too short or too long | `Length` |
-/// | 1, 3, 19: a character cannot be encoded | `Character` |
+/// | 2, 4, 5, 10, 20, 22, 30: a text, row, list, record or buffer has a wrong length | `Length` |
+/// | 1, 3, 19, 31: a character cannot be encoded | `Character` |
 /// | 11, 12, 13, 15, 16, 21, 23: a cell, block, number, version or bit is wrong | `Character` |
-/// | 14: the check is wrong | `Checksum` |
+/// | 33: the cells are no EAN-13 row, whatever is wrong with them | `Character` |
+/// | 14, 32: the check is wrong | `Checksum` |
 ///
 /// ```
 /// use slatmonief::error::{Error, Result};
@@ -40,8 +42,8 @@ pub type Result<T> = ::core::result::Result<T, Error>;
 impl From<Refusal> for Error {
     fn from(refusal: Refusal) -> Error {
         match refusal.number() {
-            2 | 4 | 5 | 10 | 20 | 22 => Error::Length,
-            14 => Error::Checksum,
+            2 | 4 | 5 | 10 | 20 | 22 | 30 => Error::Length,
+            14 | 32 => Error::Checksum,
             _ => Error::Character,
         }
     }

@@ -1,7 +1,9 @@
-//! Code 128 rows: written, read back, packed and unpacked.
+//! Code 128 rows: written, read back, packed and unpacked. EAN-13 rows: written and read back.
 //!
 //! This crate is a thin, safe layer over a library in which every function is proved to do what its
 //! documentation says, for every input.
+//!
+//! The calls of this page are for Code 128. The module [`ean13`] has those for EAN-13.
 //!
 //! # Words
 //!
@@ -28,7 +30,8 @@
 //!   reserve for it goes by the length of the input, and never exceeds those sizes, in elements;
 //!   `spell_symbols` then makes a `String` of them. `encode_str` also copies the code points of the
 //!   text, if they are no more than [`MOST_CODE_POINTS`].
-//! - [`sym::code128::Code128`] and [`error`] have the signatures of the crate barcoders: see below.
+//! - [`sym::code128::Code128`], [`sym::ean13::EAN13`] and [`error`] have the signatures of the
+//!   crate barcoders: see below.
 //!
 //! # Example
 //!
@@ -60,6 +63,7 @@
 //! | Was | Is |
 //! |---|---|
 //! | `use barcoders::sym::code128::*;` | `use slatmonief::sym::code128::*;` |
+//! | `use barcoders::sym::ean13::*;` | `use slatmonief::sym::ean13::*;` |
 //! | `use barcoders::error::{Error, Result};` | `use slatmonief::error::{Error, Result};` |
 //!
 //! Or one line at the root of the program, and no other changes:
@@ -75,8 +79,9 @@
 //! # }
 //! ```
 //!
-//! The other symbologies of barcoders and its pictures are not here. [`sym::code128`] says which
-//! two answers differ. A [`Refusal`] becomes an [`error::Error`] by `?` or `into()`.
+//! The other symbologies of barcoders and its pictures are not here. [`sym::code128`] and
+//! [`sym::ean13`] say which answers differ. A [`Refusal`] becomes an [`error::Error`] by `?` or
+//! `into()`.
 //!
 //! # Without std
 //!
@@ -91,6 +96,7 @@
 
 extern crate alloc;
 
+pub mod ean13;
 pub mod error;
 mod refusal;
 pub mod sym;
@@ -182,16 +188,17 @@ macro_rules! job {
         $input:ident: $from:ty, $output:ident: $to:ty
     ) => {
         $(#[$doc])*
-        $see fn $name($input: &[$from], $output: &mut [$to]) -> Result<usize, Refusal> {
+        $see fn $name($input: &[$from], $output: &mut [$to]) -> Result<usize, $crate::Refusal> {
             // SAFETY: both slices are valid for their lengths, a `&` and a `&mut` slice do not
             // overlap, and the library keeps neither of them.
             let numbers = unsafe {
                 $extern($input.as_ptr(), $input.len(), $output.as_mut_ptr(), $output.len())
             };
-            answer(refusal::Job::$job, numbers)
+            $crate::answer($crate::refusal::Job::$job, numbers)
         }
     };
 }
+pub(crate) use job;
 
 job! {
     /// The call of encode, whose refusals do not say yet what stands at their place.

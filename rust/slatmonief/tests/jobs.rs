@@ -323,7 +323,7 @@ fn refusals_leave_the_buffer_and_speak() {
             read(&good[1..], &mut list),
             10,
             67,
-            "refusal 10: no row has 67 cells",
+            "refusal 10: no Code 128 row has 67 cells",
         ),
         (
             read(&spoilt(9, 2), &mut list),

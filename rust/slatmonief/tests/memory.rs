@@ -1,6 +1,7 @@
 //! What the calls that return a `Vec` or a `String` reserve: by the length of the input, and no
 //! more than for the longest answer.
 use slatmonief::sym::code128::Code128;
+use slatmonief::sym::ean13::EAN13;
 use slatmonief::{error::Error, *};
 use std::alloc::{GlobalAlloc, Layout, System};
 use std::cell::Cell;
@@ -134,6 +135,43 @@ fn no_input_reserves_more_than_the_limit() {
     assert_eq!((refusal.number(), most), (10, MOST_RECORD));
     let (refusal, most) = noted(|| unpack_record(&million).unwrap_err());
     assert_eq!((refusal.number(), most), (22, MOST_CELLS));
+}
+
+/// EAN-13 reserves the row or the digits, and nothing else.
+#[test]
+fn an_ean13_number_reserves_its_row() {
+    let (row, all) = summed(|| ean13::write_str("4006381333931").unwrap());
+    assert_eq!((row.len(), row.capacity(), all), (95, 95, 95));
+    let (text, all) = summed(|| ean13::read_row(&row).unwrap());
+    assert_eq!(
+        (text.as_str(), text.capacity(), all),
+        ("4006381333931", 13, 13)
+    );
+    let (barcode, all) = summed(|| EAN13::new(text).unwrap());
+    assert_eq!(all, 0);
+    let (encoded, all) = summed(|| barcode.encode());
+    assert_eq!((encoded, all), (row, 95));
+}
+
+/// What EAN-13 refuses reserves nothing, however long it is.
+#[test]
+fn a_refused_ean13_reserves_nothing() {
+    let million = "1".repeat(1_000_000);
+    for (text, number, error) in [
+        ("", 30, Error::Length),
+        (&million, 30, Error::Length),
+        ("40063813339é", 31, Error::Character),
+        ("4006381333930", 32, Error::Checksum),
+    ] {
+        let (refusal, all) = summed(|| ean13::write_str(text).unwrap_err());
+        assert_eq!((refusal.number(), all), (number, 0));
+        let (refused, all) = summed(|| EAN13::new(text).unwrap_err());
+        assert_eq!((refused, all), (error, 0));
+    }
+    for row in [&[], &[1; 95][..], million.as_bytes()] {
+        let (refusal, all) = summed(|| ean13::read_row(row).unwrap_err());
+        assert_eq!((refusal.number(), all), (33, 0));
+    }
 }
 
 /// Records that declare far more than they have: what is reserved goes by what arrived.

@@ -50,6 +50,22 @@ fn a_record() -> Result<(), Refusal> {
     Ok(())
 }
 
+#[test]
+fn goods() -> Result<(), Refusal> {
+    use slatmonief::ean13;
+
+    let row = ean13::write_str("400638133393")?; // the check digit, 1, is added
+    assert_eq!(row.len(), ean13::CELLS); // 95
+    assert_eq!(ean13::write_str("4006381333931")?, row); // the check digit is tested
+    assert_eq!(ean13::read_row(&row)?, "4006381333931");
+    let refusal = ean13::write_str("4006381333930").unwrap_err();
+    assert_eq!(
+        refusal.to_string(),
+        "refusal 32: the check digit is wrong, 1 would be right"
+    );
+    Ok(())
+}
+
 /// The indented blocks of a text, without those of commands, which begin with `$`.
 fn blocks(text: &str) -> Vec<String> {
     let mut blocks = vec![String::new()];

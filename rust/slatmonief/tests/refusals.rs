@@ -1,4 +1,5 @@
-//! Where encode refuses a text and in which words, and the error of barcoders for each refusal.
+//! Where encode refuses a text and in which words, and the error of barcoders for each refusal. For
+//! EAN-13 both are in tests/ean13.rs.
 use slatmonief::{error::Error, *};
 
 /// The code points of a text.
@@ -113,13 +114,17 @@ fn no_place_in_a_text() {
         encode_str(&long.repeat(2).replacen("AƁ", "AA", 1)).unwrap_err(),
         draw_symbols(&[104, 104]).unwrap_err(),
         unpack_record(&[3, 9]).unwrap_err(),
+        ean13::write_str("é").unwrap_err(),
+        ean13::write_str("4006381333930").unwrap_err(),
+        ean13::write(b"4006381333931", &mut []).unwrap_err(),
+        ean13::read_row(b"4006381333931").unwrap_err(),
     ] {
         assert_eq!((refusal.offset(), refusal.character()), (None, None));
     }
     assert!(std::mem::size_of::<Refusal>() <= 40);
 }
 
-/// The error of barcoders for every refusal of every job.
+/// The error of barcoders for every refusal of every job of Code 128.
 #[test]
 fn errors_of_barcoders() {
     let row = encode_str("ƁAIM").unwrap();

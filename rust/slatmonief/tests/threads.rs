@@ -1,6 +1,7 @@
 //! Calls from many threads at once, each with its own buffers: the answers are those of one thread.
 //! On x86-64 they all run in the library at once; on Arm the bridge has a process for each.
 use slatmonief::sym::code128::Code128;
+use slatmonief::sym::ean13::EAN13;
 use slatmonief::*;
 use std::sync::Barrier;
 use std::thread;
@@ -15,8 +16,8 @@ struct Answers {
     lent: Vec<(Result<usize, Refusal>, Vec<u8>)>,
     spelled: (Result<usize, Refusal>, Vec<u32>),
     returned: Vec<Result<Vec<u8>, Refusal>>,
-    text: Result<String, Refusal>,
-    barcode: Result<Code128, error::Error>,
+    texts: Vec<Result<String, Refusal>>,
+    barcodes: (Result<Code128, error::Error>, Result<EAN13, error::Error>),
 }
 
 /// The answer of a job, and its buffer.
@@ -36,6 +37,7 @@ fn ask(text: &str, room: usize) -> Answers {
     let row = encode_str(text).unwrap_or_else(|_| text.into());
     let list = read_row(&row).unwrap_or_else(|_| text.into());
     let record = pack_row(&row).unwrap_or_else(|_| text.into());
+    let goods = ean13::write_str(text).unwrap_or_else(|_| text.into());
     Answers {
         lent: vec![
             lent(9, room, |out| encode(&points, out)),
@@ -44,6 +46,8 @@ fn ask(text: &str, room: usize) -> Answers {
             lent(200, room, |out| scan(&list, out)),
             lent(9, room, |out| pack(&row, out)),
             lent(9, room, |out| unpack(&record, out)),
+            lent(9, room, |out| ean13::write(text.as_bytes(), out)),
+            lent(9, room, |out| ean13::read(&goods, out)),
         ],
         spelled: lent(7, room, |out| spell(&list, out)),
         returned: vec![
@@ -53,17 +57,29 @@ fn ask(text: &str, room: usize) -> Answers {
             scan_symbols(&list),
             pack_row(&row),
             unpack_record(&record),
+            ean13::write_str(text),
         ],
-        text: spell_symbols(&list),
-        barcode: Code128::new(text),
+        texts: vec![spell_symbols(&list), ean13::read_row(&goods)],
+        barcodes: (Code128::new(text), EAN13::new(text)),
     }
 }
 
-/// Labels of many lengths, some of which are refused.
+/// Labels of many lengths and EAN-13 numbers, some of which are refused.
 fn texts() -> Vec<String> {
     let mut texts: Vec<String> = ["", "A", "Hello", "ÀHello", "Ć1", "Ɓź", "Ɓ€", "ĆŹ1Ź2"]
         .map(String::from)
         .into();
+    let numbers = [
+        "400638133393",
+        "4006381333931",
+        "4006381333930",
+        "9783161484100",
+        "978-316148410",
+        "0036000291452",
+        "999999999999",
+        "75010313113",
+    ];
+    texts.extend(numbers.map(String::from));
     for n in [0, 1, 2, 7, 13, 99, 254, 255, 256, 1_000, 3_999, 4_000] {
         texts.push(format!("Ɓ{}", "aB7".repeat(n).get(..n).unwrap_or_default()));
         texts.push(format!("Ć{}", "37".repeat(n)));
@@ -77,7 +93,7 @@ fn many_threads_at_once() {
     let rooms = [0, 60, MOST_CELLS];
     let asked = || texts.iter().flat_map(|text| rooms.map(|room| (text, room)));
     let alone: Vec<Answers> = asked().map(|(text, room)| ask(text, room)).collect();
-    assert_eq!(alone.len(), 96);
+    assert_eq!(alone.len(), 120);
     let barrier = Barrier::new(THREADS);
     thread::scope(|scope| {
         for first in 0..THREADS {
@@ -85,7 +101,7 @@ fn many_threads_at_once() {
             scope.spawn(move || {
                 barrier.wait();
                 // Each begins elsewhere, so that different jobs and labels meet.
-                let inputs = asked().zip(alone).cycle().skip(first * 12).take(96);
+                let inputs = asked().zip(alone).cycle().skip(first * 15).take(120);
                 for ((text, room), answers) in inputs {
                     assert_eq!(ask(text, room), *answers);
                 }

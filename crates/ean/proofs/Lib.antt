@@ -1,0 +1,11 @@
+pub mod Computes
+pub mod Tables
+pub mod Lists
+pub mod Rows
+pub mod Values
+pub mod Draws
+pub mod Texts
+pub mod Reading
+pub mod Damaged
+pub mod Writing
+pub mod Promises

@@ -1,0 +1,3 @@
+pub mod Ean13
+pub mod Contracts
+pub mod Promises

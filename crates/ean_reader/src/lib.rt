@@ -1,0 +1,2 @@
+// The readers of the symbologies of EAN: EAN-13.
+pub mod ean13;
