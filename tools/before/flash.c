@@ -1,5 +1,5 @@
-/* Calls each job of JOBS three times (a label of N symbols, a buffer of length 0, no input) on a
-   painted stack of 16 KiB, and prints how many bytes below the return address it touched; ends with
+/* Calls each job of JOBS three times (a label of N symbols or an EAN-13 number of twelve zeros, a
+   buffer of length 0, no input) on a painted stack of 16 KiB, and prints how many bytes below the return address it touched; ends with
    the status REFUSED if the label is too long for the library. tools/before/flash compiles it for
    x86-64 without a C library. All of it is in sections named .own, so that every other section of
    the linked program is the library's; it makes its inputs itself, so that only the jobs of JOBS
@@ -11,6 +11,7 @@
 enum { CELLS = 11 * N + 24, HEAD = N <= 255 ? 2 : 3, RECORD = HEAD + (CELLS + 7) / 8, RETURN = 8 };
 static uint32_t text[N], lent[(CELLS + 3) / 4];
 static uint8_t symbols[N], row[CELLS], record[RECORD], stack[16384] __attribute__((aligned(64)));
+static uint8_t zeros[12], goods[SLATMONIEF_EAN13_CELLS];
 
 #define encode text, N, lent, CELLS
 #define draw symbols, N, lent, CELLS
@@ -19,6 +20,8 @@ static uint8_t symbols[N], row[CELLS], record[RECORD], stack[16384] __attribute_
 #define scan symbols, N, lent, N
 #define pack row, CELLS, lent, RECORD
 #define unpack record, RECORD, lent, CELLS
+#define ean13_write zeros, 12, lent, SLATMONIEF_EAN13_CELLS
+#define ean13_read goods, SLATMONIEF_EAN13_CELLS, lent, SLATMONIEF_EAN13_DIGITS
 #define JOB(name) measure((void *)slatmonief_##name, name);
 
 /* In assembly, so that nothing but the return address is on the painted stack before the job's own
@@ -46,16 +49,26 @@ static void measure(void *job, const void *in, size_t in_len, void *out, size_t 
     }
 }
 
-static size_t row_len;
-static void put(int count, uint32_t bars) {
-    while (count-- > 0) row[row_len++] = bars >> count & 1;
+static size_t row_len, goods_len;
+static void put(uint8_t *to, size_t *len, int count, uint32_t bars) {
+    while (count-- > 0) to[(*len)++] = bars >> count & 1;
+}
+
+static void make_goods(void) { /* the number: zeros, whose check is 0 */
+    for (int i = 0; i < 12; i++) zeros[i] = '0';
+    put(goods, &goods_len, 3, 5);
+    for (int i = 0; i < 6; i++) put(goods, &goods_len, 7, 0x0d);
+    put(goods, &goods_len, 5, 0x0a);
+    for (int i = 0; i < 6; i++) put(goods, &goods_len, 7, 0x72);
+    put(goods, &goods_len, 3, 5);
 }
 
 __attribute__((used)) void run(void) { /* the label: START B and spaces, whose check is 1 */
-    put(11, 0x690);
-    for (int i = 1; i < N; i++) put(11, 0x6cc);
-    put(11, 0x66c);
-    put(13, 0x18eb);
+    make_goods();
+    put(row, &row_len, 11, 0x690);
+    for (int i = 1; i < N; i++) put(row, &row_len, 11, 0x6cc);
+    put(row, &row_len, 11, 0x66c);
+    put(row, &row_len, 13, 0x18eb);
     for (int i = 0; i < N; i++) {
         symbols[i] = i == 0 ? 104 : 0;
         text[i] = i == 0 ? 0x181 : ' ';
