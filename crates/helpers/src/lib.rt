@@ -1,6 +1,8 @@
 // The common floor of every symbology: what a job answers, and after `src/sym/helpers.rs` of
 // barcoders 2.0.0 the check digit by modulo 10, and writing into a part of a lent buffer, where
 // `join_slices` returns a new vector.
+#![tactic(auto)]
+
 ghost use Rattle.std.specs.Prelude.{◌<◌, ◌≤◌, min, length, ◌≡◌};
 ghost use Rattle.std.proofs.lemmas.List.Edits.{sets};
 ghost use Rattle.helpers.specs.Modulo10.{in_turn, first_weight, modulo10};
@@ -63,6 +65,7 @@ pub enum Answer {
 
 impl Refusal {
     // The documents' number of the refusal.
+    #[tactic(auto, unfolding(crate::specs::Numbers::refusal_number))]
     pub fn number(self) -> u32
         ensures { result ≡ refusal_number self }
     {
@@ -94,6 +97,7 @@ impl Refusal {
 
 impl Answer {
     // The answer number: 0 where it is accepted.
+    #[tactic(auto, unfolding(crate::specs::Numbers::number_of))]
     pub fn number(self) -> u32
         ensures { result ≡ number_of self }
     {
@@ -104,6 +108,7 @@ impl Answer {
     }
 
     // The second number.
+    #[tactic(auto, unfolding(crate::specs::Numbers::second_of))]
     pub fn second(self) -> usize
         ensures { result ≡ second_of self }
     {
@@ -144,6 +149,7 @@ pub fn wide(x: u8) -> usize
 }
 
 // The weight of the first digit, where 1 and 3 weigh in turn.
+#[tactic(auto, unfolding(crate::specs::Modulo10::first_weight))]
 fn first_weight(even_start: bool) -> u32
     ensures { result ≡ first_weight even_start }
 {

@@ -212,10 +212,10 @@ pub data Flipped : Type 0 where
   ◌flipped_at◌gives◌ : List ℕ → ℕ → Answer → Flipped
 
 unfoldable pub flips : Flipped → List Answer
-flips (s flippedAt i gives a) = flipped_verdict s i ∷ read 4000 (flipped i (row s)) ∷ read 0 (flipped i (row s)) ∷ []
+flips (s flipped_at i gives a) = flipped_verdict s i ∷ read 4000 (flipped i (row s)) ∷ read 0 (flipped i (row s)) ∷ []
 
 unfoldable pub thrice : Flipped → List Answer
-thrice (s flippedAt i gives a) = a ∷ a ∷ a ∷ []
+thrice (s flipped_at i gives a) = a ∷ a ∷ a ∷ []
 
 -- a symbol list, two of its places, and its row with these two blocks exchanged
 pub data Exchange : Type 0 where
@@ -265,12 +265,12 @@ pub data Size : Type 0 where
   ◌cells_fit◌ : ℕ → Bool → Size
 
 unfoldable pub fits : Size → Bool
-fits (n symbolsFit b) = possible n
-fits (n cellsFit b) = possible_row n
+fits (n symbols_fit b) = possible n
+fits (n cells_fit b) = possible_row n
 
 unfoldable pub fitting : Size → Bool
-fitting (n symbolsFit b) = b
-fitting (n cellsFit b) = b
+fitting (n symbols_fit b) = b
+fitting (n cells_fit b) = b
 
 -- a symbol list and its check
 pub data Checked : Type 0 where
@@ -287,10 +287,10 @@ pub data Headed : Type 0 where
   ◌packed_after◌long◌ : ℕ → List ℕ → ℕ → Headed
 
 unfoldable pub headed : Headed → List ℕ × ℕ
-headed (n packedAfter h long k) = (head n, record_length n)
+headed (n packed_after h long k) = (head n, record_length n)
 
 unfoldable pub begun : Headed → List ℕ × ℕ
-begun (n packedAfter h long k) = (h, k)
+begun (n packed_after h long k) = (h, k)
 
 -- ---- a. document 01's labels
 
@@ -1090,26 +1090,26 @@ redrawings =
 -- in the START, in data, in the check and in the stop of others.
 unfoldable pub flippings : List Flipped
 flippings =
-    ((103 ∷ []) flippedAt 0 gives refuse 16 0) ∷ ((103 ∷ []) flippedAt 1 gives refuse 16 0) ∷ ((103 ∷ []) flippedAt 2 gives refuse 16 0) ∷
-    ((103 ∷ []) flippedAt 3 gives refuse 16 0) ∷ ((103 ∷ []) flippedAt 4 gives refuse 16 0) ∷ ((103 ∷ []) flippedAt 5 gives refuse 16 0) ∷
-    ((103 ∷ []) flippedAt 6 gives refuse 16 0) ∷ ((103 ∷ []) flippedAt 7 gives refuse 16 0) ∷ ((103 ∷ []) flippedAt 8 gives refuse 16 0) ∷
-    ((103 ∷ []) flippedAt 9 gives refuse 16 0) ∷ ((103 ∷ []) flippedAt 10 gives refuse 16 0) ∷ ((103 ∷ []) flippedAt 11 gives refuse 16 1) ∷
-    ((103 ∷ []) flippedAt 12 gives refuse 16 1) ∷ ((103 ∷ []) flippedAt 13 gives refuse 16 1) ∷ ((103 ∷ []) flippedAt 14 gives refuse 16 1) ∷
-    ((103 ∷ []) flippedAt 15 gives refuse 16 1) ∷ ((103 ∷ []) flippedAt 16 gives refuse 16 1) ∷ ((103 ∷ []) flippedAt 17 gives refuse 16 1) ∷
-    ((103 ∷ []) flippedAt 18 gives refuse 16 1) ∷ ((103 ∷ []) flippedAt 19 gives refuse 16 1) ∷ ((103 ∷ []) flippedAt 20 gives refuse 16 1) ∷
-    ((103 ∷ []) flippedAt 21 gives refuse 16 1) ∷ ((103 ∷ []) flippedAt 22 gives refuse 15 22) ∷ ((103 ∷ []) flippedAt 23 gives refuse 15 23) ∷
-    ((103 ∷ []) flippedAt 24 gives refuse 15 24) ∷ ((103 ∷ []) flippedAt 25 gives refuse 15 25) ∷ ((103 ∷ []) flippedAt 26 gives refuse 15 26) ∷
-    ((103 ∷ []) flippedAt 27 gives refuse 15 27) ∷ ((103 ∷ []) flippedAt 28 gives refuse 15 28) ∷ ((103 ∷ []) flippedAt 29 gives refuse 15 29) ∷
-    ((103 ∷ []) flippedAt 30 gives refuse 15 30) ∷ ((103 ∷ []) flippedAt 31 gives refuse 15 31) ∷ ((103 ∷ []) flippedAt 32 gives refuse 15 32) ∷
-    ((103 ∷ []) flippedAt 33 gives refuse 15 33) ∷ ((103 ∷ []) flippedAt 34 gives refuse 15 34) ∷ ((105 ∷ 12 ∷ []) flippedAt 0 gives refuse 16 0) ∷
-    ((105 ∷ 12 ∷ []) flippedAt 10 gives refuse 16 0) ∷ ((105 ∷ 12 ∷ []) flippedAt 11 gives refuse 16 1) ∷ ((105 ∷ 12 ∷ []) flippedAt 21 gives refuse 16 1) ∷
-    ((105 ∷ 12 ∷ []) flippedAt 22 gives refuse 16 2) ∷ ((105 ∷ 12 ∷ []) flippedAt 32 gives refuse 16 2) ∷
-    ((104 ∷ 33 ∷ 41 ∷ 45 ∷ []) flippedAt 5 gives refuse 16 0) ∷ ((104 ∷ 33 ∷ 41 ∷ 45 ∷ []) flippedAt 12 gives refuse 16 1) ∷
-    ((104 ∷ 33 ∷ 41 ∷ 45 ∷ []) flippedAt 27 gives refuse 16 2) ∷ ((104 ∷ 33 ∷ 41 ∷ 45 ∷ []) flippedAt 43 gives refuse 16 3) ∷
-    ((104 ∷ 33 ∷ 41 ∷ 45 ∷ []) flippedAt 44 gives refuse 16 4) ∷ ((104 ∷ 33 ∷ 41 ∷ 45 ∷ []) flippedAt 54 gives refuse 16 4) ∷
-    ((105 ∷ 12 ∷ []) flippedAt 33 gives refuse 15 33) ∷ ((105 ∷ 12 ∷ []) flippedAt 45 gives refuse 15 45) ∷
-    ((104 ∷ 33 ∷ 41 ∷ 45 ∷ []) flippedAt 55 gives refuse 15 55) ∷ ((104 ∷ 33 ∷ 41 ∷ 45 ∷ []) flippedAt 61 gives refuse 15 61) ∷
-    ((104 ∷ 33 ∷ 41 ∷ 45 ∷ []) flippedAt 67 gives refuse 15 67) ∷ []
+    ((103 ∷ []) flipped_at 0 gives refuse 16 0) ∷ ((103 ∷ []) flipped_at 1 gives refuse 16 0) ∷ ((103 ∷ []) flipped_at 2 gives refuse 16 0) ∷
+    ((103 ∷ []) flipped_at 3 gives refuse 16 0) ∷ ((103 ∷ []) flipped_at 4 gives refuse 16 0) ∷ ((103 ∷ []) flipped_at 5 gives refuse 16 0) ∷
+    ((103 ∷ []) flipped_at 6 gives refuse 16 0) ∷ ((103 ∷ []) flipped_at 7 gives refuse 16 0) ∷ ((103 ∷ []) flipped_at 8 gives refuse 16 0) ∷
+    ((103 ∷ []) flipped_at 9 gives refuse 16 0) ∷ ((103 ∷ []) flipped_at 10 gives refuse 16 0) ∷ ((103 ∷ []) flipped_at 11 gives refuse 16 1) ∷
+    ((103 ∷ []) flipped_at 12 gives refuse 16 1) ∷ ((103 ∷ []) flipped_at 13 gives refuse 16 1) ∷ ((103 ∷ []) flipped_at 14 gives refuse 16 1) ∷
+    ((103 ∷ []) flipped_at 15 gives refuse 16 1) ∷ ((103 ∷ []) flipped_at 16 gives refuse 16 1) ∷ ((103 ∷ []) flipped_at 17 gives refuse 16 1) ∷
+    ((103 ∷ []) flipped_at 18 gives refuse 16 1) ∷ ((103 ∷ []) flipped_at 19 gives refuse 16 1) ∷ ((103 ∷ []) flipped_at 20 gives refuse 16 1) ∷
+    ((103 ∷ []) flipped_at 21 gives refuse 16 1) ∷ ((103 ∷ []) flipped_at 22 gives refuse 15 22) ∷ ((103 ∷ []) flipped_at 23 gives refuse 15 23) ∷
+    ((103 ∷ []) flipped_at 24 gives refuse 15 24) ∷ ((103 ∷ []) flipped_at 25 gives refuse 15 25) ∷ ((103 ∷ []) flipped_at 26 gives refuse 15 26) ∷
+    ((103 ∷ []) flipped_at 27 gives refuse 15 27) ∷ ((103 ∷ []) flipped_at 28 gives refuse 15 28) ∷ ((103 ∷ []) flipped_at 29 gives refuse 15 29) ∷
+    ((103 ∷ []) flipped_at 30 gives refuse 15 30) ∷ ((103 ∷ []) flipped_at 31 gives refuse 15 31) ∷ ((103 ∷ []) flipped_at 32 gives refuse 15 32) ∷
+    ((103 ∷ []) flipped_at 33 gives refuse 15 33) ∷ ((103 ∷ []) flipped_at 34 gives refuse 15 34) ∷ ((105 ∷ 12 ∷ []) flipped_at 0 gives refuse 16 0) ∷
+    ((105 ∷ 12 ∷ []) flipped_at 10 gives refuse 16 0) ∷ ((105 ∷ 12 ∷ []) flipped_at 11 gives refuse 16 1) ∷ ((105 ∷ 12 ∷ []) flipped_at 21 gives refuse 16 1) ∷
+    ((105 ∷ 12 ∷ []) flipped_at 22 gives refuse 16 2) ∷ ((105 ∷ 12 ∷ []) flipped_at 32 gives refuse 16 2) ∷
+    ((104 ∷ 33 ∷ 41 ∷ 45 ∷ []) flipped_at 5 gives refuse 16 0) ∷ ((104 ∷ 33 ∷ 41 ∷ 45 ∷ []) flipped_at 12 gives refuse 16 1) ∷
+    ((104 ∷ 33 ∷ 41 ∷ 45 ∷ []) flipped_at 27 gives refuse 16 2) ∷ ((104 ∷ 33 ∷ 41 ∷ 45 ∷ []) flipped_at 43 gives refuse 16 3) ∷
+    ((104 ∷ 33 ∷ 41 ∷ 45 ∷ []) flipped_at 44 gives refuse 16 4) ∷ ((104 ∷ 33 ∷ 41 ∷ 45 ∷ []) flipped_at 54 gives refuse 16 4) ∷
+    ((105 ∷ 12 ∷ []) flipped_at 33 gives refuse 15 33) ∷ ((105 ∷ 12 ∷ []) flipped_at 45 gives refuse 15 45) ∷
+    ((104 ∷ 33 ∷ 41 ∷ 45 ∷ []) flipped_at 55 gives refuse 15 55) ∷ ((104 ∷ 33 ∷ 41 ∷ 45 ∷ []) flipped_at 61 gives refuse 15 61) ∷
+    ((104 ∷ 33 ∷ 41 ∷ 45 ∷ []) flipped_at 67 gives refuse 15 67) ∷ []
 
 -- ---- k. FNC2 retired
 
@@ -1247,11 +1247,11 @@ exchangings =
 -- which lengths of a list and of a row are possible.
 unfoldable pub sizes : List Size
 sizes =
-    (0 symbolsFit false) ∷ (1 symbolsFit true) ∷ (255 symbolsFit true) ∷ (256 symbolsFit true) ∷ (3999 symbolsFit true) ∷ (4000 symbolsFit true) ∷
-    (4001 symbolsFit false) ∷ (65535 symbolsFit false) ∷ (0 cellsFit false) ∷ (24 cellsFit false) ∷ (34 cellsFit false) ∷ (35 cellsFit true) ∷ (36 cellsFit false) ∷
-    (46 cellsFit true) ∷ (2828 cellsFit false) ∷ (2829 cellsFit true) ∷ (2830 cellsFit false) ∷ (2839 cellsFit false) ∷ (2840 cellsFit true) ∷
-    (2841 cellsFit false) ∷ (44013 cellsFit true) ∷ (44023 cellsFit false) ∷ (44024 cellsFit true) ∷ (44025 cellsFit false) ∷ (44034 cellsFit false) ∷
-    (44035 cellsFit false) ∷ (44036 cellsFit false) ∷ (44046 cellsFit false) ∷ []
+    (0 symbols_fit false) ∷ (1 symbols_fit true) ∷ (255 symbols_fit true) ∷ (256 symbols_fit true) ∷ (3999 symbols_fit true) ∷ (4000 symbols_fit true) ∷
+    (4001 symbols_fit false) ∷ (65535 symbols_fit false) ∷ (0 cells_fit false) ∷ (24 cells_fit false) ∷ (34 cells_fit false) ∷ (35 cells_fit true) ∷ (36 cells_fit false) ∷
+    (46 cells_fit true) ∷ (2828 cells_fit false) ∷ (2829 cells_fit true) ∷ (2830 cells_fit false) ∷ (2839 cells_fit false) ∷ (2840 cells_fit true) ∷
+    (2841 cells_fit false) ∷ (44013 cells_fit true) ∷ (44023 cells_fit false) ∷ (44024 cells_fit true) ∷ (44025 cells_fit false) ∷ (44034 cells_fit false) ∷
+    (44035 cells_fit false) ∷ (44036 cells_fit false) ∷ (44046 cells_fit false) ∷ []
 
 -- A label of 4,000 symbols, by hand: its row fits 44,024 cells. The cells are left out, so that
 -- this is quickly computed; the crate writes the row that model.py writes.
@@ -1270,10 +1270,10 @@ long_checks =
 -- the first bytes of the record of n symbols, and the record's length.
 unfoldable pub heads : List Headed
 heads =
-    (1 packedAfter 1 ∷ 1 ∷ [] long 7) ∷ (8 packedAfter 1 ∷ 8 ∷ [] long 16) ∷ (254 packedAfter 1 ∷ 254 ∷ [] long 355) ∷ (255 packedAfter 1 ∷ 255 ∷ [] long 356) ∷
-    (256 packedAfter 2 ∷ 1 ∷ 0 ∷ [] long 358) ∷ (257 packedAfter 2 ∷ 1 ∷ 1 ∷ [] long 360) ∷ (511 packedAfter 2 ∷ 1 ∷ 255 ∷ [] long 709) ∷
-    (512 packedAfter 2 ∷ 2 ∷ 0 ∷ [] long 710) ∷ (1000 packedAfter 2 ∷ 3 ∷ 232 ∷ [] long 1381) ∷ (3999 packedAfter 2 ∷ 15 ∷ 159 ∷ [] long 5505) ∷
-    (4000 packedAfter 2 ∷ 15 ∷ 160 ∷ [] long 5506) ∷ []
+    (1 packed_after 1 ∷ 1 ∷ [] long 7) ∷ (8 packed_after 1 ∷ 8 ∷ [] long 16) ∷ (254 packed_after 1 ∷ 254 ∷ [] long 355) ∷ (255 packed_after 1 ∷ 255 ∷ [] long 356) ∷
+    (256 packed_after 2 ∷ 1 ∷ 0 ∷ [] long 358) ∷ (257 packed_after 2 ∷ 1 ∷ 1 ∷ [] long 360) ∷ (511 packed_after 2 ∷ 1 ∷ 255 ∷ [] long 709) ∷
+    (512 packed_after 2 ∷ 2 ∷ 0 ∷ [] long 710) ∷ (1000 packed_after 2 ∷ 3 ∷ 232 ∷ [] long 1381) ∷ (3999 packed_after 2 ∷ 15 ∷ 159 ∷ [] long 5505) ∷
+    (4000 packed_after 2 ∷ 15 ∷ 160 ∷ [] long 5506) ∷ []
 
 -- Records of version 2, by hand from request 4: rows of 256 and 257 symbols. At 256 there is no
 -- spare bit, at 257 there are five.

@@ -72,7 +72,8 @@ module _ (ks : List ℕ) where
 list_by : (room : ℕ) (s : List ℕ) (n : ℕ) (out : List ℕ) → By (10 ∷ 13 ∷ 5 ∷ []) (of_list room s (accept n out))
 unfolding of_list
 list_by room s n out =
-    by_into _ room _ (inr (inr (inl refl))) (by_then _ _ _ (by_ask _ _ 10 (length s) (inl refl)) (by_then _ _ _ (by_form _ s (inr (inl refl))) tt))
+    let ks : List ℕ = 10 ∷ 13 ∷ 5 ∷ [] in
+    by_into ks room _ (inr (inr (inl refl))) (by_then ks _ _ (by_ask ks _ 10 (length s) (inl refl)) (by_then ks _ _ (by_form ks s (inr (inl refl))) tt))
 
 encoder_by : (ks : List ℕ) (retired : Test) (room : ℕ) (x : List ℕ) → OneOf 1 ks → OneOf 2 ks → OneOf 3 ks → TestBy ks retired → OneOf 4 ks → OneOf 5 ks → By ks (encoder retired room x)
 unfolding encoder
@@ -84,13 +85,16 @@ encoder_by ks retired room x one two three by four five =
 
 pub with_by : (room : ℕ) (x : List ℕ) → By (1 ∷ 2 ∷ 3 ∷ 4 ∷ 5 ∷ []) (encode_with_fnc2 room x)
 unfolding encode_with_fnc2
-with_by room x = encoder_by _ passes room x (inl refl) (inr (inl refl)) (inr (inr (inl refl))) tt (inr (inr (inr (inl refl)))) (inr (inr (inr (inr (inl refl)))))
+with_by room x =
+    let ks : List ℕ = 1 ∷ 2 ∷ 3 ∷ 4 ∷ 5 ∷ [] in
+    encoder_by ks passes room x (inl refl) (inr (inl refl)) (inr (inr (inl refl))) tt (inr (inr (inr (inl refl)))) (inr (inr (inr (inr (inl refl)))))
 
 encode_by : (room : ℕ) (x : List ℕ) → By (1 ∷ 2 ∷ 3 ∷ 19 ∷ 4 ∷ 5 ∷ []) (encode room x)
 unfolding encode
 encode_by room x =
-    encoder_by _ (every not_fnc2 19 0 x) room x (inl refl) (inr (inl refl)) (inr (inr (inl refl)))
-    (by_every _ _ 19 0 x (inr (inr (inr (inl refl))))) (inr (inr (inr (inr (inl refl))))) (inr (inr (inr (inr (inr (inl refl))))))
+    let ks : List ℕ = 1 ∷ 2 ∷ 3 ∷ 19 ∷ 4 ∷ 5 ∷ [] in
+    encoder_by ks (every not_fnc2 19 0 x) room x (inl refl) (inr (inl refl)) (inr (inr (inl refl)))
+    (by_every ks _ 19 0 x (inr (inr (inr (inl refl))))) (inr (inr (inr (inr (inl refl))))) (inr (inr (inr (inr (inr (inl refl))))))
 
 draw_by : (room : ℕ) (x : List ℕ) → By (10 ∷ 13 ∷ 5 ∷ []) (draw room x)
 unfolding draw
@@ -107,28 +111,31 @@ scan_by room x = list_by room x _ _
 read_by : (room : ℕ) (x : List ℕ) → By (10 ∷ 11 ∷ 12 ∷ 16 ∷ 13 ∷ 15 ∷ 14 ∷ 5 ∷ []) (read room x)
 unfolding read of_row
 read_by room x =
-    by_into _ room _ (inr (inr (inr (inr (inr (inr (inr (inl refl))))))))
-    (by_then _ _ _ (by_ask _ _ 10 (length x) (inl refl))
-    (by_then _ _ _ (by_every _ _ 11 0 x (inr (inl refl)))
-    (by_looked _ _ _ (by_blocks _ _ 0 x (inr (inr (inl refl))) (inr (inr (inr (inl refl)))) (inr (inr (inr (inr (inl refl))))))
-    λ ms. by_then _ _ _ (by_wanted _ 15 _ stop _ (inr (inr (inr (inr (inr (inl refl))))))) (by_then _ _ _ (by_ask _ _ 14 _ (inr (inr (inr (inr (inr (inr (inl refl)))))))) tt))))
+    let ks : List ℕ = 10 ∷ 11 ∷ 12 ∷ 16 ∷ 13 ∷ 15 ∷ 14 ∷ 5 ∷ [] in
+    by_into ks room _ (inr (inr (inr (inr (inr (inr (inr (inl refl))))))))
+    (by_then ks _ _ (by_ask ks _ 10 (length x) (inl refl))
+    (by_then ks _ _ (by_every ks _ 11 0 x (inr (inl refl)))
+    (by_looked ks _ _ (by_blocks ks _ 0 x (inr (inr (inl refl))) (inr (inr (inr (inl refl)))) (inr (inr (inr (inr (inl refl))))))
+    λ ms. by_then ks _ _ (by_wanted ks 15 _ stop _ (inr (inr (inr (inr (inr (inl refl))))))) (by_then ks _ _ (by_ask ks _ 14 _ (inr (inr (inr (inr (inr (inr (inl refl)))))))) tt))))
 
 pack_by : (room : ℕ) (x : List ℕ) → By (10 ∷ 11 ∷ 5 ∷ []) (pack room x)
 unfolding pack of_row whole
 pack_by room x =
-    by_into _ room _ (inr (inr (inl refl)))
-    (by_then _ _ _ (by_ask _ _ 10 (length x) (inl refl)) (by_then _ _ _ (by_every _ _ 11 0 x (inr (inl refl))) tt))
+    let ks : List ℕ = 10 ∷ 11 ∷ 5 ∷ [] in
+    by_into ks room _ (inr (inr (inl refl)))
+    (by_then ks _ _ (by_ask ks _ 10 (length x) (inl refl)) (by_then ks _ _ (by_every ks _ 11 0 x (inr (inl refl))) tt))
 
 unpack_by : (room : ℕ) (x : List ℕ) → By (20 ∷ 21 ∷ 22 ∷ 23 ∷ 5 ∷ []) (unpack room x)
 unfolding unpack whole
 unpack_by room x =
-    by_into _ room _ (inr (inr (inr (inr (inl refl)))))
-    (by_then _ _ _ (by_ask _ _ 20 _ (inl refl))
-    (by_then _ _ _ (by_ask _ _ 21 _ (inr (inl refl)))
-    (by_then _ _ _ (by_ask _ _ 22 _ (inr (inr (inl refl))))
-    (by_then _ _ _ (by_ask _ _ 22 _ (inr (inr (inl refl))))
-    (by_then _ _ _ (by_ask _ _ 22 _ (inr (inr (inl refl))))
-    (by_then _ _ _ (by_ask _ _ 23 _ (inr (inr (inr (inl refl))))) tt))))))
+    let ks : List ℕ = 20 ∷ 21 ∷ 22 ∷ 23 ∷ 5 ∷ [] in
+    by_into ks room _ (inr (inr (inr (inr (inl refl)))))
+    (by_then ks _ _ (by_ask ks _ 20 _ (inl refl))
+    (by_then ks _ _ (by_ask ks _ 21 _ (inr (inl refl)))
+    (by_then ks _ _ (by_ask ks _ 22 _ (inr (inr (inl refl))))
+    (by_then ks _ _ (by_ask ks _ 22 _ (inr (inr (inl refl))))
+    (by_then ks _ _ (by_ask ks _ 22 _ (inr (inr (inl refl))))
+    (by_then ks _ _ (by_ask ks _ 23 _ (inr (inr (inr (inl refl))))) tt))))))
 
 -- ---- largest outputs
 

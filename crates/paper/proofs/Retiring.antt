@@ -70,6 +70,7 @@ some_refuses b x h = go (every not_fnc2 19 b x) refl (by_every (19 ∷ []) not_f
     go : (t : Test) → every not_fnc2 19 b x ≡ t → TestBy (19 ∷ []) t → (p : ℕ) × (every not_fnc2 19 b x ≡ refuses 19 p)
     go passes e o = absurd (h (passes_none b x e))
     go (refuses k p) e (inl o) = (p, e ∙ ap (λ (j : ℕ). refuses j p) o)
+    go (refuses k p) e (inr o) = elim o [ ]
 
 -- the place of the first ź: where the test refuses, and only there
 abbrev First : ℕ → List ℕ → Type 0

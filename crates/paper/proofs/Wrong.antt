@@ -61,6 +61,7 @@ refuse_number e = cc
 past : (j k : ℕ) (t : Test) (a : Answer) {m : ℕ} → TestBy (j ∷ []) t → k ≢ j → (t then a) ≡ refuse k m → a ≡ refuse k m
 unfolding ◌then◌
 past j k (refuses i n) a (inl h) other e = absurd (other (sym (refuse_number e) ∙ h))
+past j k (refuses i n) a (inr h) other e = elim h [ ]
 past j k passes a h other e = e
 
 fits_past : (b : Bool) (k n l : ℕ) (out : List ℕ) {m : ℕ} → k ≢ 5 → (if b then accept n out else refuse 5 l) ≡ refuse k m → accept n out ≡ refuse k m
