@@ -1,5 +1,7 @@
 // What a symbol list and a row look like: the tests that jobs of Code 128 begin with, 10 and 13 of
 // a list, 10 and 11 of a row.
+#![tactic(auto)]
+
 ghost use Rattle.std.specs.Prelude.{◌≤◌, ◌≡◌, leb, length, drop};
 ghost use Rattle.helpers.specs.Terms.{first_not, answers};
 ghost use Rattle.paper.specs.Jobs as Paper;
