@@ -18,9 +18,9 @@ use Rattle.paper.specs.Crate.{State, free, held, Step, halt, hold, write, step, 
 use Rattle.paper.specs.Jobs.{not_fnc2}
 use Rattle.paper.proofs.Moves.{digit_bounds, Sound, Move, stuck, holds, lists, closes, passes_by, move}
 use Rattle.helpers.proofs.Ahead.{ahead, ahead_one, ahead_stays, ahead_all}
-use Rattle.tokens.specs.Tokens.{stored_by, stored_from, stored, Tells, Tokens}
+use Rattle.tokens.specs.Tokens.{stored_by, stored_from, stored, Tells}
 use Rattle.tokens.specs.declared.parse.Parsed.TheVariants.{Stops, Retired, Symbols}
-use Rattle.tokens.proofs.Stored.{stored_turn, stored_over, stored_all}
+use Rattle.tokens.proofs.Stored.{Gives, stored_turn, stored_over, stored_all}
 
 -- ---- one code point
 
@@ -162,8 +162,8 @@ module _ {x l₀ l : List ℕ} {q : State} {n first i : ℕ} (p : Parsing x l₀
   all_stored : stored_from q (drop i x) ≡ [] → (l ≡ sets l₀ 0 (stored x)) × (n ≡ length (stored x))
   all_stored none = (rw none at p.left, omega (arith, rw none at p.count))
 
-  pub parsing_halt : i < length x → step q (get_or x i 0) ≡ halt → Tokens (Stops i) x l₀ l
-  unfolding follow stored_by Tells Tokens
+  pub parsing_halt : i < length x → step q (get_or x i 0) ≡ halt → Gives (Stops i) x l₀ l
+  unfolding follow stored_by Tells
   parsing_halt h e = (p.rest ∙ rw (parse_turn q x i h, e) (puts_stops p.done i), (all_stored (rw (stored_turn q x i h, e) refl)).0)
 
   over : length x ≤ i → parse_from q i (drop i x) ≡ (if finished q then symbols [] else stops i)
@@ -173,19 +173,19 @@ module _ {x l₀ l : List ℕ} {q : State} {n first i : ℕ} (p : Parsing x l₀
   ended : length x ≤ i → finished q ≡ true → parse x ≡ symbols p.done
   ended h e = p.rest ∙ rw (over h, e) (puts_end p.done)
 
-  pub parsing_end : length x ≤ i → finished q ≡ true → i ≤ first → Tokens (Symbols n) x l₀ l
-  unfolding Tells Tokens
+  pub parsing_end : length x ≤ i → finished q ≡ true → i ≤ first → Gives (Symbols n) x l₀ l
+  unfolding Tells
   parsing_end h e k =
       let clear : every not_fnc2 19 0 x ≡ passes = every_to_end not_fnc2 19 0 x (omega (arith, seek_end (p.clear (omega arith)) h)) in
       let (put, count) = all_stored (stored_over q x i h) in
       ((p.done, ended h e, clear, count ∙ ap length (stored_all x p.done (ended h e) clear)), put)
 
-  pub parsing_noted : length x ≤ i → finished q ≡ true → first < i → Tokens (Retired first) x l₀ l
-  unfolding Tells Tokens
+  pub parsing_noted : length x ≤ i → finished q ≡ true → first < i → Gives (Retired first) x l₀ l
+  unfolding Tells
   parsing_noted h e k =
       let both = p.noted (omega (arith, p.within)) in
       ((p.done, ended h e, rw both.1 (every_refuses not_fnc2 19 0 x (omega (arith, p.within)))), (all_stored (stored_over q x i h)).0)
 
-  pub parsing_short : length x ≤ i → finished q ≡ false → Tokens (Stops i) x l₀ l
-  unfolding Tells Tokens
+  pub parsing_short : length x ≤ i → finished q ≡ false → Gives (Stops i) x l₀ l
+  unfolding Tells
   parsing_short h e = (p.rest ∙ rw (over h, e) (puts_stops p.done i), (all_stored (stored_over q x i h)).0)

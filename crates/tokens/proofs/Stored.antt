@@ -7,7 +7,7 @@ use mathlib.Core.Bool.{Bool, true, false}
 use mathlib.Core.List.{List, [], ◌∷◌}
 use native.Mathlib.Omega.{arith}
 use lib.ListN.{length, get_or, drop, drop_of_length-le}
-use lib.Seq.{drop-cons}
+use lib.Seq.{sets, drop-cons}
 use Rattle.helpers.specs.Answers.{if◌then◌else◌, Test, refuses, passes, every}
 use Rattle.paper.specs.Iso15417.{before}
 use Rattle.paper.specs.Crate as Crate
@@ -79,6 +79,15 @@ tells_told (Stops at) x p = rw p refl
 tells_told (Retired at) x (s, p, e) = rw (p, e) refl
 tells_told (Symbols n) x (s, p, e, k) = rw (p, e, k) refl
 
-pub tokens_one : (r r' : Parsed) (x l m m' : List ℕ) → Tokens r x l m → Tokens r' x l m' → (r ≡ r') × (m ≡ m')
-unfolding Tokens
+-- both of what `parse` promises
+abbrev pub Gives : Parsed → List ℕ → List ℕ → List ℕ → Type 0
+Gives r x l m = Tells r x × (m ≡ sets l 0 (stored x))
+
+pub gives_tokens : (r : Parsed) (x l m : List ℕ) → Gives r x l m → Tokens r x l m
+unfolding Tells Tokens
+gives_tokens (Stops at) x l m (t, e) = t
+gives_tokens (Retired at) x l m (t, e) = t
+gives_tokens (Symbols n) x l m ((s, p, u, k), e) = (s, p, u, k, e ∙ ap (sets l 0) (stored_all x s p u))
+
+pub tokens_one : (r r' : Parsed) (x l m m' : List ℕ) → Gives r x l m → Gives r' x l m' → (r ≡ r') × (m ≡ m')
 tokens_one r r' x l m m' (t, e) (t', e') = (tells_told r x t ∙ sym (tells_told r' x t'), e ∙ sym e')

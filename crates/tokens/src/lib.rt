@@ -1,5 +1,7 @@
 // The character sets and the parser, after `CharacterSet` and `parse` of `src/sym/code128.rs` of
 // barcoders 2.0.0: code points to symbols.
+#![tactic(auto)]
+
 ghost use Rattle.std.specs.Prelude.{◌≡◌};
 ghost use Rattle.helpers.specs.Terms.{answers};
 ghost use Rattle.paper.specs.Iso15417.{next, start_of};
@@ -14,7 +16,7 @@ pub mod parse;
 mod unicode;
 
 // The three character sets, and `None` before the START.
-#[derive(Drop)]
+#[derive(Clone, Copy)]
 pub enum CharacterSet {
     A,
     B,
@@ -40,6 +42,7 @@ impl CharacterSet {
     pub const START_C: u8 = 105;
 
     // The set that a code point names: À, Ɓ or Ć.
+    #[tactic(auto, unfolding(crate::specs::Sets::set_of, crate::specs::Sets::named))]
     pub fn from_char(c: u32) -> CharacterSet
         ensures { set_of result ≡ named c }
     {
@@ -52,6 +55,7 @@ impl CharacterSet {
     }
 
     // The number of the set's START, 0 for `None`.
+    #[tactic(auto, unfolding(crate::specs::Sets::set_of, paper::specs::Iso15417::start_of))]
     pub fn index(self) -> u8
         ensures { result ≡ start_of (set_of self) }
     {
@@ -65,6 +69,7 @@ impl CharacterSet {
 
     // The number of a code point in the set; before the START only the three names of the sets have
     // one.
+    #[tactic(auto, unfolding(crate::specs::Sets::set_of))]
     pub fn lookup(self, c: u32) -> Lookup
         ensures { result ≡ lookup_of (number_in (spans (set_of self)) c) }
     {
@@ -79,6 +84,7 @@ impl CharacterSet {
     // The set after a symbol: the STARTs, and the switches Code C 99, Code B 100, Code A 101. In
     // set C 99 is a pair. Nothing below 99 switches: that comes first, because most symbols are
     // below 99.
+    #[tactic(auto, using(paper::proofs::Codes::next_low), unfolding(crate::specs::Sets::set_of, paper::specs::Iso15417::next))]
     pub fn next(self, m: u8) -> CharacterSet
         ensures { set_of result ≡ next (set_of self) m }
     {

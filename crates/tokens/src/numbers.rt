@@ -8,6 +8,7 @@ use crate::{CharacterSet, Lookup};
 
 // What sets A and B share: Ż, ź, Ž, Ć and Ź. ź has a case of its own, so that the parser need not
 // compare every code point with it.
+#[tactic(auto, unfolding(crate::specs::Sets::lookup_of, paper::specs::Crate::number_in, paper::specs::Crate::in_both))]
 fn in_both(c: u32) -> Lookup
     ensures { result ≡ lookup_of (number_in in_both c) }
 {
@@ -53,6 +54,7 @@ pub fn in_b(c: u32) -> Lookup
 }
 
 // Set C, whose pairs of digits are the parser's: Ɓ, À and Ź.
+#[tactic(auto, unfolding(crate::specs::Sets::lookup_of, paper::specs::Crate::number_in, paper::specs::Crate::spans))]
 pub fn in_c(c: u32) -> Lookup
     ensures { result ≡ lookup_of (number_in (spans Iso.C) c) }
 {

@@ -1,15 +1,16 @@
 // Tokenizing, after the crate's `parse`: code points to symbols.
 ghost use Rattle.std.specs.Prelude.{◌<◌, ◌≡◌, set};
+ghost use Rattle.std.proofs.lemmas.List.Edits.{sets};
 ghost use Rattle.paper.specs.Crate.{spans, number_in, free, held, digit, pairs, listed, step, finished};
 ghost use Rattle.paper.proofs.Moves.{Sound};
 ghost use Rattle.tokens.specs.Sets.{set_of};
-ghost use Rattle.tokens.specs.Tokens.{state_of, Does, Tokens};
+ghost use Rattle.tokens.specs.Tokens.{state_of, Does, stored, Tokens};
 
 use crate::{CharacterSet, Lookup};
 
 // The parser between two code points: free in a set, or in set C with the value of the digit that
 // it holds.
-#[derive(Drop)]
+#[derive(Clone, Copy)]
 enum State {
     Free(CharacterSet),
     Held(u8),
@@ -34,6 +35,7 @@ pub enum Parsed {
 }
 
 // Is it an ASCII digit?
+#[tactic(auto, unfolding(paper::specs::Crate::digit))]
 fn is_digit(c: u32) -> bool
     ensures { result ≡ digit c }
 {
@@ -44,6 +46,7 @@ fn is_digit(c: u32) -> bool
 }
 
 // Do digits go by pairs? In set C alone.
+#[tactic(auto, unfolding(crate::specs::Sets::set_of, paper::specs::Crate::pairs))]
 fn has_pairs(set: CharacterSet) -> bool
     ensures { result ≡ pairs (set_of set) }
 {
@@ -93,6 +96,7 @@ fn step_held(d: u8, c: u32) -> Token
 }
 
 // One code point.
+#[tactic(auto, unfolding(crate::specs::Tokens::state_of))]
 fn step(state: State, c: u32) -> Token
     requires { Sound (state_of state) }
     ensures { Does (step (state_of state) c) (state_of state) c result }
@@ -104,6 +108,7 @@ fn step(state: State, c: u32) -> Token
 }
 
 // May the input end here? Not before the START, nor where a digit is held.
+#[tactic(auto, unfolding(crate::specs::Sets::set_of, crate::specs::Tokens::state_of, paper::specs::Crate::finished))]
 fn is_finished(state: State) -> bool
     ensures { result ≡ finished (state_of state) }
 {
@@ -126,11 +131,13 @@ fn push(list: &mut [u8], n: usize, m: u8)
     list[n] = m;
 }
 
-// The symbols of a text, stored as far as the list reaches and counted to the end. If the text has a
-// ź, the place of the first is returned instead, and what stands in the list means nothing: ź is
-// neither stored nor counted.
+// The symbols of a text, stored as far as the list reaches and counted to the end. Where parsing
+// stops, that place is returned instead, and else, if the text has a ź, the place of the first. The
+// list then has the symbols of the other code points, up to that stop or to the end: ź is neither
+// stored nor counted.
 pub fn parse(text: &[u32], list: &mut [u8]) -> Parsed
-    ensures { Tokens result text.now list.old list.new }
+    ensures tokens { Tokens result text.now list.old list.new }
+    ensures stored { list.new ≡ sets list.old 0 (stored text.now) }
 {
     let mut state = State::Free(CharacterSet::None);
     let mut n: usize = 0;

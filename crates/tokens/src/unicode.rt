@@ -4,6 +4,7 @@ ghost use Rattle.paper.specs.Crate.{is_scalar, utf8_bytes};
 ghost use Rattle.helpers.specs.Terms.{first_not};
 
 // Is it a Unicode scalar value?
+#[tactic(auto, unfolding(paper::specs::Crate::is_scalar))]
 fn is_scalar(c: u32) -> bool
     ensures { result ≡ is_scalar c }
 {
