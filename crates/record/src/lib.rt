@@ -1,5 +1,7 @@
 // The row record: a version byte, the count, and the cells of a row, eight to a byte. Version 1 has
 // one byte for the count; version 2, for rows of more than 255 symbols, has two.
+#![tactic(auto)]
+
 ghost use Rattle.std.specs.Prelude.{◌+◌, ◌-◌, ◌*◌, ◌/◌, ◌<◌, ◌≤◌, ◌≡◌, length, take, drop};
 ghost use Rattle.std.proofs.lemmas.List.Edits.{sets};
 ghost use Rattle.helpers.specs.Answers.{Each, Gave};
