@@ -23,7 +23,7 @@ use Rattle.ean.specs.Promises.{Valid}
 use Rattle.ean.proofs.Tables.{parity_length}
 use Rattle.ean.proofs.Rows.{row_length, row_framed, left_cells, right_cells, row_read, row_of_read}
 use Rattle.ean.proofs.Lists.{read_length}
-use Rattle.ean.proofs.Texts.{written, digits_written, written_at, values_written, any_default, Thirteen, valid_thirteen, again, written_thirteen, written_valid, plain, write_is, plain_valid, valid_plain}
+use Rattle.ean.proofs.Texts.{written, digits_written, written_at, values_written, any_default, Thirteen, valid_thirteen, written_thirteen, written_valid, plain, write_is, plain_valid, valid_plain}
 
 -- ---- the set of a drawn digit
 

@@ -122,8 +122,8 @@ ean13_same_row room room' x y n m r q e f =
 write_by : (room : ℕ) (x : List ℕ) → By (30 ∷ 31 ∷ 32 ∷ 5 ∷ []) (write_ean13 room x)
 unfolding write_ean13 whole
 write_by room x =
-    by_into _ room _ (inr (inr (inr (inl refl))))
-    (by_then _ _ _ (by_ask _ _ 30 _ (inl refl)) (by_then _ _ _ (by_every _ is_digit 31 0 x (inr (inl refl))) (by_then _ _ _ (by_ask _ _ 32 _ (inr (inr (inl refl)))) tt)))
+    by_into (30 ∷ 31 ∷ 32 ∷ 5 ∷ []) room _ (inr (inr (inr (inl refl))))
+    (by_then (30 ∷ 31 ∷ 32 ∷ 5 ∷ []) _ _ (by_ask (30 ∷ 31 ∷ 32 ∷ 5 ∷ []) _ 30 _ (inl refl)) (by_then (30 ∷ 31 ∷ 32 ∷ 5 ∷ []) _ _ (by_every (30 ∷ 31 ∷ 32 ∷ 5 ∷ []) is_digit 31 0 x (inr (inl refl))) (by_then (30 ∷ 31 ∷ 32 ∷ 5 ∷ []) _ _ (by_ask (30 ∷ 31 ∷ 32 ∷ 5 ∷ []) _ 32 _ (inr (inr (inl refl)))) tt)))
 
 pub write_owes : Owes write_ean13 (30 ∷ 31 ∷ 32 ∷ 5 ∷ []) 95
 write_owes =
@@ -133,7 +133,7 @@ write_owes =
 
 read_by_numbers : (room : ℕ) (row : List ℕ) → By (33 ∷ 5 ∷ []) (read_ean13 room row)
 unfolding read_ean13 read_back whole
-read_by_numbers room row = by_into _ room _ (inr (inl refl)) (by_then _ _ _ (by_ask _ _ 33 _ (inl refl)) tt)
+read_by_numbers room row = by_into (33 ∷ 5 ∷ []) room _ (inr (inl refl)) (by_then (33 ∷ 5 ∷ []) _ _ (by_ask (33 ∷ 5 ∷ []) _ 33 _ (inl refl)) tt)
 
 -- what is read has thirteen digits and fits
 read_thirteen : (room : ℕ) (row : List ℕ) (n : ℕ) (t : List ℕ) → read_ean13 room row ≡ accept n t → (length t ≡ 13) × (length t ≤ room)
