@@ -1,2 +1,4 @@
 // The readers of the symbologies of EAN: EAN-13.
+#![tactic(auto)]
+
 pub mod ean13;

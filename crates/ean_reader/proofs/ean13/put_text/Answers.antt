@@ -1,0 +1,11 @@
+-- `ean_reader::ean13::put_text` meets its contract: a loop that stores the bytes of the digits.
+-- Assumes nothing.
+use Prim.Native.Nat.{ℕ, ◌+◌}
+use native.Mathlib.Omega.{arith}
+use lib.ListN.{length-map}
+use Rattle.helpers.proofs.Writes.{storing_turn}
+use Rattle.ean.proofs.Lists.{map_at}
+use Rattle.ean_reader.proofs.ean13.put_text.Goals as goal
+
+pub loop-i-preserved : goal.loop-i-preserved
+loop-i-preserved c = (omega arith, storing_turn c.loop-i.invariant.1 _ _ (omega arith) (omega (arith, length-map c.args.digits.now (λ (d : ℕ). d + 48))) (map_at (λ d. d + 48) c.args.digits.now c.loop-i.i (omega arith)))
