@@ -10,7 +10,7 @@ ghost use Rattle.helpers.specs.Terms.{Turn};
 ghost use Rattle.helpers.specs.Numbers.{refusal_number, number_of, second_of};
 
 // Why a job refuses: the refusals of documents 01 and 02 by name, in the order of their numbers.
-#[derive(Drop)]
+#[derive(Clone, Copy)]
 pub enum Refusal {
     // 1: a value that is no Unicode scalar value.
     Scalar,
@@ -57,7 +57,7 @@ pub enum Refusal {
 }
 
 // Accepted with a number, or refused with a second number.
-#[derive(Drop)]
+#[derive(Clone, Copy)]
 pub enum Answer {
     Done(usize),
     Refused(Refusal, usize),
