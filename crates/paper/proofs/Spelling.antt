@@ -9,7 +9,8 @@ use native.Mathlib.Omega.{arith}
 use lib.Dec.{ltb}
 use lib.ListN.{length, length-append}
 use borrow.Author.Tests.{le-leb, lt-ltb, ne_eqb}
-use Rattle.helpers.specs.Answers.{if◌then◌else◌, Each}
+use Rattle.std.specs.Prelude.{if◌then◌else◌}
+use Rattle.helpers.specs.Answers.{Each}
 use Rattle.paper.specs.Iso15417.{Set, before, A, B, C, next, digits}
 use Rattle.paper.specs.Crate.{À, Ɓ, Ć, Ź, spans, point_in, State, free, held, Step, write, digit, pairs, listed, step, Parsed, stops, symbols, with_symbol, follow, finished, parse_from, parse, as_list, letters, spell_from, spelled}
 use Rattle.paper.proofs.Computes.{crate_computes}
