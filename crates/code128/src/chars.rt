@@ -143,6 +143,7 @@ pub const QUADS: [u32; 16] = [
 ];
 
 // The fours, copied once for a call that reads them often.
+#[tactic(auto, unfolding(crate::specs::Quads::quads_from, crate::specs::Quads::quads))]
 pub fn quads() -> [u32; 16]
     ensures { result ≡ quads }
 {

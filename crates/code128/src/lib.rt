@@ -1,4 +1,6 @@
 // Code 128 after `src/sym/code128.rs` of barcoders 2.0.0: the patterns, the check, draw and encode.
+#![tactic(auto)]
+
 ghost use Rattle.std.specs.Prelude.{◌≡◌, ◌+◌, ◌*◌, ◌≤◌, min, length, take};
 ghost use Rattle.std.proofs.lemmas.List.Edits.{sets};
 ghost use Rattle.helpers.specs.Answers.{Each, accept, into, Gave};
@@ -156,6 +158,7 @@ fn draw_listed(found: Answer, list: &[u8], out: &mut [u8]) -> Answer
 
 // Encode: code points to a row. Refusals 1, 2, 3, 19, 4, 5. A list is cleared before it is used, so
 // a short text takes a short one: 255 symbols of set C are 509 code points.
+#[tactic(auto, unfolding(paper::specs::Jobs::most))]
 pub fn encode(text: &[u32], out: &mut [u8]) -> Answer
     ensures { Gave (encode (length out.old) text.now) (number_of result) (second_of result) out.old out.new }
 {

@@ -4,12 +4,8 @@ use mathlib.Core.Path.{refl}
 use Rattle.paper.proofs.Computes.{iso15417_computes}
 use Rattle.paper.specs.Jobs.{bits}
 use Rattle.code128.specs.Words.{words_from, words}
-use Rattle.code128.proofs.chars.words.Statement.{statement}
-use Rattle.code128.proofs.chars.words.Tie as tie
+use Rattle.code128.proofs.chars.words.Goals as goal
 
-returns : tie.Need-returns
+pub returns : goal.returns
 unfolding iso15417_computes bits words_from words
 returns c = refl
-
-pub words-spec : {M : Type 1} → statement M
-words-spec = tie.close (tie.spec returns)
