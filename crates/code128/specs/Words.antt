@@ -2,8 +2,8 @@
 -- that table.
 -- Document 02, request 5. Of the libraries' words, `◌^◌` and `ones`, the number of ones of a number
 -- in binary, come in here. Assumes nothing.
-use Rattle.helpers.specs.Prelude.{ℕ, zero, suc, ◌/◌, ◌%◌, ◌<◌, ◌≡◌, List, [], ◌∷◌, length, get_or}
-use Rattle.std.specs.Prelude.{◌^◌}
+use Rattle.std.specs.Prelude.{◌/◌, ◌%◌, ◌<◌, ◌≡◌, ◌∷◌, ◌^◌}
+use Rattle.helpers.specs.Prelude.{ℕ, zero, suc, List, [], length, get_or}
 use Rattle.std.specs.Int.Count.{ones}
 use Rattle.paper.specs.Iso15417.{pattern}
 use Rattle.paper.specs.Chars.{entry}

@@ -9,7 +9,8 @@ use native.Mathlib.Nat.{not-suc-le-zero, le_of_suc-le-suc}
 use lib.Dec.{leb, T}
 use lib.ListN.{length, get_or, set, take, drop}
 use borrow.Author.Tests.{leb-true, le-leb, lt-leb}
-use Rattle.helpers.specs.Answers.{if◌then◌else◌, Each, Answer, refuse, accept, Test, refuses, passes, ◌then◌, ask, every, whole, into}
+use Rattle.std.specs.Prelude.{if◌then◌else◌}
+use Rattle.helpers.specs.Answers.{Each, Answer, refuse, accept, Test, refuses, passes, ◌then◌, ask, every, whole, into}
 
 -- ---- truth values
 

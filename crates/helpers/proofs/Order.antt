@@ -6,7 +6,8 @@ use mathlib.Core.List.{List, [], ◌∷◌}
 use Prim.Native.Nat.{ℕ}
 use lib.Dec.{leb}
 use lib.ListN.{length}
-use Rattle.helpers.specs.Answers.{if◌then◌else◌, Answer, refuse, accept, Test, refuses, passes, ◌then◌, ask, into}
+use Rattle.std.specs.Prelude.{if◌then◌else◌}
+use Rattle.helpers.specs.Answers.{Answer, refuse, accept, Test, refuses, passes, ◌then◌, ask, into}
 use Rattle.helpers.specs.Order.{in_order, room_for}
 
 into_then : (room : ℕ) (t : Test) (a : Answer) → into room (t then a) ≡ (t then into room a)

@@ -8,8 +8,9 @@ use mathlib.Core.List.{List, [], ◌∷◌}
 use Prim.Native.Nat.{ℕ, suc, ◌≤◌}
 use native.Mathlib.Omega.{arith}
 use lib.Dec.{leb}
-use lib.ListN.{length, drop, length-append, length-drop}
-use Rattle.helpers.specs.Answers.{if◌then◌else◌, Each, Answer, refuse, accept, Accepted, Test, refuses, passes, ◌then◌, ask, every, into, number, after, Gave}
+use lib.ListN.{length, length-append, length-drop}
+use Rattle.std.specs.Prelude.{if◌then◌else◌}
+use Rattle.helpers.specs.Answers.{Each, Answer, refuse, accept, Accepted, Test, refuses, passes, ◌then◌, ask, every, into, number, after, Gave}
 use Rattle.helpers.specs.Owes.{OneOf, Owes}
 
 -- ---- of one answer

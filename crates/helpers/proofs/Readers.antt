@@ -8,7 +8,8 @@ use mathlib.Core.List.{List}
 use native.Mathlib.Omega.{arith}
 use lib.Dec.{leb}
 use lib.ListN.{length}
-use Rattle.helpers.specs.Answers.{if◌then◌else◌, Answer, refuse, accept, ◌then◌, ask, whole, into}
+use Rattle.std.specs.Prelude.{if◌then◌else◌}
+use Rattle.helpers.specs.Answers.{Answer, refuse, accept, ◌then◌, ask, whole, into}
 use Rattle.helpers.specs.Readers.{gives, read_back, ReadsBack}
 use Rattle.helpers.proofs.Answering.{true_not_false, refuse_not_accept, then_accept, ask_passes, into_accept, into_room, whole_accept}
 use Rattle.helpers.proofs.Same.{same_true, same_refl}

@@ -9,7 +9,8 @@ use native.Mathlib.Numerals.{add-one}
 use native.Mathlib.Omega.{arith}
 use lib.ListN.{length, get_or, drop, drop_of_length-le}
 use lib.Seq.{drop-cons}
-use Rattle.helpers.specs.Answers.{if◌then◌else◌, refuses, passes, every}
+use Rattle.std.specs.Prelude.{if◌then◌else◌}
+use Rattle.helpers.specs.Answers.{refuses, passes, every}
 use Rattle.helpers.specs.Terms.{first_not}
 
 -- A loop that tries the places of s from `from` on in order, and has come to place i.

@@ -1,12 +1,8 @@
 -- What a job answers, of any symbology: its refusals in order, and the lent buffer afterwards.
 -- Document 01, "The seven jobs and their refusals". Assumes nothing.
-use Rattle.helpers.specs.Prelude.{ℕ, suc, ◌≡◌, Bool, true, false, ◌&&◌, List, [], ◌∷◌, ◌++◌, leb, eqb, length, drop}
-
-infixr 10 if◌then◌else◌
--- the first where the test holds, and else the second
-abbrev pub if◌then◌else◌ : {X : Type 0} → Bool → X → X → X
-if true then x else y = x
-if false then x else y = y
+use Rattle.std.specs.Prelude.{◌≡◌, ◌&&◌, ◌∷◌, ◌++◌}
+pub use Rattle.std.specs.Prelude.{if◌then◌else◌}
+use Rattle.helpers.specs.Prelude.{ℕ, suc, Bool, true, false, List, [], leb, eqb, length, drop}
 
 -- are two lists the same, element by element?
 unfoldable pub same : List ℕ → List ℕ → Bool

@@ -1,7 +1,8 @@
 -- The check digit by modulo 10, one rule for every symbology that has it.
 -- `modulo_10_checksum` of src/sym/helpers.rs; GS1 General Specifications, the check digit; document
 -- 02, requests 2 and 11. Assumes nothing.
-use Rattle.helpers.specs.Prelude.{ℕ, ◌+◌, ◌-◌, ◌*◌, ◌%◌, Bool, true, false, List, [], ◌∷◌}
+use Rattle.std.specs.Prelude.{◌+◌, ◌-◌, ◌*◌, ◌%◌, ◌∷◌}
+use Rattle.helpers.specs.Prelude.{ℕ, Bool, true, false, List, []}
 
 -- the sum of some digits, the first of which weighs w, where 1 and 3 weigh in turn: 4 - w is the
 -- other weight

@@ -1,6 +1,7 @@
 -- Refusals in order, of any symbology: a job's tests, each asked by itself, and what an input earns.
 -- Document 01, "The seven jobs and their refusals" ("Order"). Assumes nothing.
-use Rattle.helpers.specs.Prelude.{ℕ, List, [], ◌∷◌, leb, length}
+use Rattle.std.specs.Prelude.{◌∷◌}
+use Rattle.helpers.specs.Prelude.{ℕ, List, [], leb, length}
 use Rattle.helpers.specs.Answers.{Answer, refuse, Test, refuses, passes, ◌then◌, ask}
 
 -- the answer a, if no test refuses; else the refusal of the first that does

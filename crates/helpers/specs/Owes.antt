@@ -1,6 +1,7 @@
 -- What every job owes its caller, in one record.
 -- Demand 1, and document 01, "What each job owes its caller". Assumes nothing.
-use Rattle.helpers.specs.Prelude.{ℕ, ◌≤◌, ◌≡◌, ◌≢◌, ◌⊎◌, List, [], ◌∷◌, length}
+use Rattle.std.specs.Prelude.{◌≤◌, ◌≡◌, ◌≢◌, ◌⊎◌, ◌∷◌}
+use Rattle.helpers.specs.Prelude.{ℕ, List, [], length}
 use Rattle.helpers.specs.Answers.{Answer, refuse, accept, Accepted, Gave}
 
 -- k is one of the list

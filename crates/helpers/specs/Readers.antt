@@ -1,7 +1,8 @@
 -- A reader of one symbology's rows, over its writer: requests 2, 6, 11 and 13 have one law.
 -- Document 02, request 2: "a reader refuses only by 33, given exactly for rows that its writer
 -- never writes, then 5". Assumes nothing.
-use Rattle.helpers.specs.Prelude.{ℕ, ◌≡◌, ◌↔◌, ◌≢◌, Bool, false, List, length}
+use Rattle.std.specs.Prelude.{◌≡◌, ◌↔◌, ◌≢◌}
+use Rattle.helpers.specs.Prelude.{ℕ, Bool, false, List, length}
 use Rattle.helpers.specs.Answers.{same, Answer, refuse, accept, ◌then◌, ask, whole, into}
 
 -- is the answer an acceptance with this output?

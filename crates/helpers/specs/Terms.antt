@@ -1,9 +1,9 @@
 -- What contracts of the code speak of beside the definitions. Nobody audits these.
 -- Assumes nothing.
-use Rattle.std.specs.Prelude.{ℕ, suc, ◌+◌, ◌≡◌, ◌⊎◌, Bool, List, [], ◌∷◌, length}
+use Rattle.std.specs.Prelude.{ℕ, suc, ◌+◌, ◌≡◌, ◌⊎◌, Bool, List, [], ◌∷◌, length, if◌then◌else◌}
 use Rattle.std.proofs.lemmas.List.Edits.{sets}
 use Rattle.helpers.specs.Answers as Paper
-use Rattle.helpers.specs.Answers.{if◌then◌else◌, refuse, accept}
+use Rattle.helpers.specs.Answers.{refuse, accept}
 use Rattle.helpers.specs.declared.Answer.{Answer}
 use Rattle.helpers.specs.declared.Answer.TheVariants.{Done, Refused}
 use Rattle.helpers.specs.Numbers.{refusal_number}

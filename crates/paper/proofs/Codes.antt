@@ -12,7 +12,8 @@ use native.Mathlib.Nat.{le_trans}
 use lib.Dec.{leb, ltb, eqb, T}
 use lib.ListN.{length, get_or, length-append}
 use borrow.Author.Tests.{leb-true, ltb-true, ne_eqb}
-use Rattle.helpers.specs.Answers.{if◌then◌else◌, Each, accept, whole}
+use Rattle.std.specs.Prelude.{if◌then◌else◌}
+use Rattle.helpers.specs.Answers.{Each, accept, whole}
 use Rattle.paper.specs.Iso15417.{Set, before, A, B, C, ascii, digits, sent, is_shift, read_in, next, scanned_from, scanned, column}
 use Rattle.paper.specs.Crate.{÷, Span, span, spans, number_in, point_in, letters}
 use Rattle.paper.proofs.Computes.{crate_computes, rules_computes}

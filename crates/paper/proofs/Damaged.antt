@@ -11,7 +11,8 @@ use lib.Dec.{leb, ltb, eqb}
 use lib.ListN.{get_or-append, length, get_or, set, length-append, length-set}
 use lib.Seq.{get_or_at, take-add, drop-drop, set_at, set_out, set-append_left}
 use borrow.Author.Tests.{leb-true, ltb-true, eqb-true, le-leb, lt-ltb, le-ltb, eq-eqb, ne_eqb}
-use Rattle.helpers.specs.Answers.{if◌then◌else◌, Each, refuse, Accepted, ◌then◌, ask, into}
+use Rattle.std.specs.Prelude.{if◌then◌else◌}
+use Rattle.helpers.specs.Answers.{Each, refuse, Accepted, ◌then◌, ask, into}
 use Rattle.paper.specs.Iso15417.{pattern, stop, check, cells, row}
 use Rattle.paper.specs.Jobs.{most, SymbolList, is_data, wrong_block, fits_at, with_number, block, looked, read}
 use Rattle.paper.specs.Damage.{blocks_of, over, redrawn, blind, accepted_if, verdict}

@@ -10,7 +10,8 @@ use native.Mathlib.Omega.{arith}
 use lib.Dec.{leb, ltb}
 use lib.ListN.{length}
 use borrow.Author.Tests.{leb-true, le-leb, lt-ltb, le-ltb}
-use Rattle.helpers.specs.Answers.{if◌then◌else◌, Answer, accept, Test, passes, ◌then◌, ask, every, into, whole}
+use Rattle.std.specs.Prelude.{if◌then◌else◌}
+use Rattle.helpers.specs.Answers.{Answer, accept, Test, passes, ◌then◌, ask, every, into, whole}
 use Rattle.paper.specs.Iso15417.{before, row}
 use Rattle.paper.specs.Crate.{spans, number_in, pairs, listed, step, State, Parsed, stops, symbols, follow, finished, parse_from, parse, utf8_of, utf8_bytes, is_scalar, spelled}
 use Rattle.paper.specs.Settle.{settle, inside}

@@ -11,7 +11,8 @@ use lib.Dec.{ltb}
 use lib.ListN.{length, get_or, take, drop, set, length-append, length-set, take-append-drop}
 use lib.Seq.{get_or-take, get_or-drop, take_at, drop_at, take-set-lt, take-set-le, drop-set-add}
 use borrow.Author.Tests.{lt-ltb, le-ltb, eq-eqb, ne_eqb}
-use Rattle.helpers.specs.Answers.{if◌then◌else◌, Each, refuse, accept, Accepted, refuses, ◌then◌, into}
+use Rattle.std.specs.Prelude.{if◌then◌else◌}
+use Rattle.helpers.specs.Answers.{Each, refuse, accept, Accepted, refuses, ◌then◌, into}
 use Rattle.paper.specs.Iso15417.{pattern, stop, bar_cells, found, worn, check, cells, row}
 use Rattle.paper.specs.Jobs.{most, SymbolList, fits_at, wrong_block, numbers, with_number, block, blocks_from, looked, last_of, wanted, read}
 use Rattle.paper.specs.Damage.{flipped, flipped_verdict}

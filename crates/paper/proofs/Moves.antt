@@ -9,7 +9,8 @@ use Prim.Native.Nat.{ℕ, ◌+◌, ◌-◌, ◌*◌, ◌<◌, ◌≤◌}
 use native.Mathlib.Omega.{arith}
 use lib.Dec.{leb, ltb, eqb, T}
 use borrow.Author.Tests.{leb-true, le-leb, ltb-true, eqb-true, not-true}
-use Rattle.helpers.specs.Answers.{if◌then◌else◌, Each}
+use Rattle.std.specs.Prelude.{if◌then◌else◌}
+use Rattle.helpers.specs.Answers.{Each}
 use Rattle.paper.specs.Iso15417.{Set, before, A, B, C, next, digits}
 use Rattle.paper.specs.Crate.{Ź, spans, number_in, point_in, State, free, held, Step, halt, hold, write, digit, pairs, listed, step, as_list, letters}
 use Rattle.paper.specs.Settle.{Position, outside, between, halfway, switched}

@@ -7,10 +7,11 @@ use mathlib.Core.Bool.{Bool, true, false}
 use mathlib.Core.List.{List, [], ◌∷◌, ◌++◌}
 use native.Mathlib.Decide.{dec_le}
 use native.Mathlib.Omega.{arith}
-use lib.Dec.{leb, ltb, eqb}
+use lib.Dec.{leb, eqb}
 use lib.ListN.{length, get_or, take, drop}
 use borrow.Author.Tests.{lt-ltb}
-use Rattle.helpers.specs.Answers.{if◌then◌else◌, Answer, refuse, accept, Test, refuses, passes, ◌then◌, ask, every, whole, into}
+use Rattle.std.specs.Prelude.{if◌then◌else◌}
+use Rattle.helpers.specs.Answers.{Answer, refuse, accept, Test, refuses, passes, ◌then◌, ask, every, whole, into}
 use Rattle.helpers.specs.Order.{in_order, room_for, answered_and_earned, due}
 use Rattle.helpers.proofs.Computes.{tests_computes}
 use Rattle.helpers.proofs.Answering.{true_not_false}

@@ -9,7 +9,8 @@ use lib.Dec.{eqb}
 use lib.ListN.{length, get_or, take, drop, length-append, take-append-drop, length-drop}
 use lib.Seq.{length-take-le, take_all, drop-drop, take_at, drop_at, take-suc, get_or_at}
 use borrow.Author.Tests.{leb-true, le-leb, eqb-true, eq-eqb}
-use Rattle.helpers.specs.Answers.{if◌then◌else◌, Each, Answer, accept, passes, ◌then◌, ask, every, into}
+use Rattle.std.specs.Prelude.{if◌then◌else◌}
+use Rattle.helpers.specs.Answers.{Each, Answer, accept, passes, ◌then◌, ask, every, into}
 use Rattle.paper.proofs.Computes.{iso15417_computes, jobs_computes}
 use Rattle.paper.specs.Iso15417.{pattern, stop, Look, is, worn, unknown, found, check, cells, row}
 use Rattle.paper.specs.Jobs.{most, SymbolList, StartThenData, row_length, symbol_count, possible_row, is_cell, is_data, Blocks, wrong_block, numbers, of_row, fits_at, with_number, block, blocks_from, looked, last_of, wanted, read, draw}

@@ -9,7 +9,8 @@ use Prim.Native.Nat.{ℕ, zero, suc, ◌≤◌}
 use native.Mathlib.Omega.{arith}
 use lib.Dec.{eqb}
 use lib.ListN.{length, take, drop}
-use Rattle.helpers.specs.Answers.{if◌then◌else◌, Answer, accept, Test, refuses, passes, every, whole}
+use Rattle.std.specs.Prelude.{if◌then◌else◌}
+use Rattle.helpers.specs.Answers.{Answer, accept, Test, refuses, passes, every, whole}
 use Rattle.helpers.specs.Owes.{OneOf, Owes}
 use Rattle.helpers.proofs.Answering.{into_accept, whole_accept}
 use Rattle.helpers.proofs.Owed.{TestBy, By, by_if, by_then, by_ask, by_every, by_into, owes}

@@ -9,7 +9,8 @@ use native.Mathlib.Omega.{arith}
 use lib.Dec.{eqb, T}
 use lib.ListN.{length, get_or, take}
 use borrow.Author.Tests.{eqb-true, eqb-false, ne_eqb}
-use Rattle.helpers.specs.Answers.{if◌then◌else◌, refuse, accept, Test, refuses, passes, ◌then◌, every, into}
+use Rattle.std.specs.Prelude.{if◌then◌else◌}
+use Rattle.helpers.specs.Answers.{refuse, accept, Test, refuses, passes, ◌then◌, every, into}
 use Rattle.helpers.specs.Owes.{OneOf}
 use Rattle.helpers.proofs.Answering.{truth}
 use Rattle.helpers.proofs.Below.{below, at as each_below}

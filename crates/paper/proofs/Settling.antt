@@ -7,7 +7,7 @@ use Prim.Native.Nat.{ℕ, ◌+◌}
 use native.Mathlib.Omega.{arith}
 use lib.Dec.{eqb}
 use borrow.Author.Tests.{eqb-true}
-use Rattle.helpers.specs.Answers.{if◌then◌else◌}
+use Rattle.std.specs.Prelude.{if◌then◌else◌}
 use Rattle.paper.specs.Crate.{À, Ɓ, Ć, Ź, digit}
 use Rattle.paper.specs.Settle.{Position, outside, between, halfway, switched, moved, added, left_over, settle_from, settle, splits, inside_from, inside, occurrences, withoutŹ}
 use Rattle.helpers.proofs.Answering.{true_not_false}

@@ -11,7 +11,8 @@ use lib.Dec.{eqb, leb}
 use lib.ListN.{length, get_or, length-append}
 use borrow.Author.Tests.{lt-ltb, le-ltb, ne_eqb}
 use native.Mathlib.Decide.{dec_lt}
-use Rattle.helpers.specs.Answers.{if◌then◌else◌, same, Test, refuses, passes, ◌then◌, refuse, accept, whole, into}
+use Rattle.std.specs.Prelude.{if◌then◌else◌}
+use Rattle.helpers.specs.Answers.{same, Test, refuses, passes, ◌then◌, refuse, accept, whole, into}
 use Rattle.helpers.specs.Terms.{bare}
 use Rattle.helpers.proofs.Gives.{bare_refuse}
 use Rattle.helpers.proofs.Below.{at}

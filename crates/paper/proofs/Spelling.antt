@@ -6,16 +6,16 @@ use mathlib.Core.Option.{Option, none, some}
 use mathlib.Core.List.{List, [], ◌∷◌, ◌++◌}
 use Prim.Native.Nat.{ℕ, suc, ◌+◌, ◌-◌, ◌*◌, ◌/◌, ◌%◌, ◌<◌, ◌≤◌}
 use native.Mathlib.Omega.{arith}
-use lib.Dec.{leb, ltb}
+use lib.Dec.{ltb}
 use lib.ListN.{length, length-append}
-use borrow.Author.Tests.{leb-true, le-leb, lt-ltb, ne_eqb}
-use Rattle.helpers.specs.Answers.{if◌then◌else◌, Each}
+use borrow.Author.Tests.{le-leb, lt-ltb, ne_eqb}
+use Rattle.std.specs.Prelude.{if◌then◌else◌}
+use Rattle.helpers.specs.Answers.{Each}
 use Rattle.paper.specs.Iso15417.{Set, before, A, B, C, next, digits}
 use Rattle.paper.specs.Crate.{À, Ɓ, Ć, Ź, spans, point_in, State, free, held, Step, write, digit, pairs, listed, step, Parsed, stops, symbols, with_symbol, follow, finished, parse_from, parse, as_list, letters, spell_from, spelled}
 use Rattle.paper.proofs.Computes.{crate_computes}
 use Rattle.paper.specs.Settle.{Position, switched, moved, added, left_over, settle_from, settle, inside}
 use Rattle.paper.specs.Jobs.{StartThenData}
-use Rattle.helpers.proofs.Answering.{and_true}
 use Rattle.paper.proofs.Settling.{settle_quiet}
 use Rattle.paper.proofs.Moves.{digit_bounds, position_if, position_of, set_of, Sound, later, Fits, Form, form_cons, form_next, Listed, listed_letters, Move, stuck, holds, lists, closes, passes_by, move, Letter, double, single, letter}
 

@@ -10,7 +10,8 @@ use native.Mathlib.Decide.{dec_le}
 use lib.Dec.{leb, eqb, T}
 use lib.ListN.{length, get_or, take}
 use borrow.Author.Tests.{eq-eqb, ne_eqb}
-use Rattle.helpers.specs.Answers.{if◌then◌else◌, same, Each}
+use Rattle.std.specs.Prelude.{if◌then◌else◌}
+use Rattle.helpers.specs.Answers.{same, Each}
 use Rattle.paper.specs.Iso15417.{widths, drawn, pattern, stop, bar_cells, Look, is, worn, unknown, worn_or_unknown, found_in, found, cells, count}
 use Rattle.paper.specs.Chars.{chars, entry}
 use Rattle.paper.proofs.Computes.{chars_computes, rules_computes}

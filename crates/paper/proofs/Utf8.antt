@@ -6,7 +6,7 @@ use mathlib.Core.Bool.{Bool, true, false}
 use native.Mathlib.Omega.{arith}
 use lib.Dec.{ltb}
 use borrow.Author.Tests.{lt-ltb, le-ltb}
-use Rattle.helpers.specs.Answers.{if◌then◌else◌}
+use Rattle.std.specs.Prelude.{if◌then◌else◌}
 use Rattle.paper.specs.Crate.{utf8_of}
 
 bytes_case : (b c d : Bool) → (1 ≤ (if b then 1 else if c then 2 else if d then 3 else 4)) × (b ≡ false → 2 ≤ (if b then 1 else if c then 2 else if d then 3 else 4))

@@ -11,7 +11,8 @@ use native.Mathlib.Decide.{dec_le}
 use lib.Dec.{leb, eqb}
 use lib.ListN.{length, get_or}
 use borrow.Author.Tests.{leb-true, le-leb, lt-leb, eqb-true, eqb-false, ne_eqb}
-use Rattle.helpers.specs.Answers.{if◌then◌else◌, Answer, refuse, ◌then◌, ask, into}
+use Rattle.std.specs.Prelude.{if◌then◌else◌}
+use Rattle.helpers.specs.Answers.{Answer, refuse, ◌then◌, ask, into}
 use Rattle.helpers.proofs.Answering.{and_true, and_false}
 use Rattle.paper.specs.Jobs.{most, possible, row_length, symbol_count, possible_row, of_row, bytes_for, head, record_of, pack, record_length, version_of, head_length, count_of, count_fits, stored_cells, unpack}
 use Rattle.paper.specs.Version1.{old_possible, old_record, old_pack, old_length, old_unpack}

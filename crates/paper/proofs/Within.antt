@@ -6,7 +6,7 @@ use mathlib.Core.Bool.{Bool, true, false}
 use mathlib.Core.List.{List, [], ◌∷◌}
 use native.Mathlib.Omega.{arith}
 use lib.ListN.{length}
-use Rattle.helpers.specs.Answers.{if◌then◌else◌}
+use Rattle.std.specs.Prelude.{if◌then◌else◌}
 use Rattle.paper.specs.Iso15417.{before}
 use Rattle.paper.specs.Crate.{State, free, held, Step, halt, hold, write, step, Parsed, stops, symbols, with_symbol, follow, finished, parse_from, parse}
 

@@ -10,7 +10,8 @@ use native.Mathlib.Nat.{add-zero, zero-add}
 use lib.Dec.{leb, eqb}
 use lib.ListN.{length, get_or, take, drop}
 use lib.Seq.{drop-drop}
-use Rattle.helpers.specs.Answers.{if◌then◌else◌, Answer, refuse, accept, Test, refuses, passes, ◌then◌, ask, every, into}
+use Rattle.std.specs.Prelude.{if◌then◌else◌}
+use Rattle.helpers.specs.Answers.{Answer, refuse, accept, Test, refuses, passes, ◌then◌, ask, every, into}
 use Rattle.helpers.proofs.Answering.{refuse_not_accept}
 use Rattle.helpers.proofs.Owed.{TestBy, by_ask, by_every}
 use Rattle.paper.specs.Iso15417.{Look, is, worn, unknown, found, check, stop}

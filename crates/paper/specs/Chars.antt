@@ -1,6 +1,7 @@
 -- The 1,166 cells of the crate's `CHARS`, one pattern a line, with its number after it.
 -- Document 01, "Patterns and check". Assumes nothing.
-use Rattle.helpers.specs.Prelude.{ℕ, ◌*◌, List, [], ◌∷◌, take, drop}
+use Rattle.std.specs.Prelude.{◌*◌, ◌∷◌}
+use Rattle.helpers.specs.Prelude.{ℕ, List, [], take, drop}
 
 -- "1,166 cells in a table"
 unfoldable pub chars : List ℕ

@@ -1,8 +1,8 @@
 -- What document 01 takes from the crate: which code points have a number in which set, and how a
 -- list of them is parsed and spelled; and the crate's own way to the check.
 -- Document 01, "Tokens and character sets" and "Spelling and scanner reading". Assumes nothing.
-use Rattle.helpers.specs.Prelude.{ℕ, suc, ◌+◌, ◌-◌, ◌*◌, ◌%◌, max, Bool, true, false, ◌&&◌, Option, none, some, List, [], ◌∷◌, ◌++◌, leb, ltb, eqb}
-use Rattle.helpers.specs.Answers.{if◌then◌else◌}
+use Rattle.std.specs.Prelude.{◌+◌, ◌-◌, ◌*◌, ◌%◌, ◌&&◌, ◌∷◌, ◌++◌, if◌then◌else◌}
+use Rattle.helpers.specs.Prelude.{ℕ, suc, max, Bool, true, false, Option, none, some, List, [], leb, ltb, eqb}
 use Rattle.paper.specs.Iso15417.{Set, before, A, B, C, next, digits}
 
 -- ---- the named code points

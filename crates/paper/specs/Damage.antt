@@ -2,8 +2,9 @@
 -- symbols change places.
 -- Demand 3, "Replace one symbol (start, data or check) of an accepted row …"; document 02, request
 -- 3, "an accepted row with any one cell flipped", and request 9. Assumes nothing.
-use Rattle.helpers.specs.Prelude.{ℕ, ◌+◌, ◌-◌, ◌*◌, ◌/◌, ◌%◌, Bool, ◌&&◌, List, [], ◌∷◌, ◌++◌, leb, ltb, eqb, length, get_or, take, drop, set}
-use Rattle.helpers.specs.Answers.{if◌then◌else◌, Answer, refuse, accept, ◌then◌, ask}
+use Rattle.std.specs.Prelude.{◌+◌, ◌-◌, ◌*◌, ◌/◌, ◌%◌, ◌&&◌, ◌∷◌, ◌++◌, if◌then◌else◌}
+use Rattle.helpers.specs.Prelude.{ℕ, Bool, List, [], leb, ltb, eqb, length, get_or, take, drop, set}
+use Rattle.helpers.specs.Answers.{Answer, refuse, accept, ◌then◌, ask}
 use Rattle.paper.specs.Iso15417.{pattern, check}
 use Rattle.paper.specs.Jobs.{fits_at}
 

@@ -2,8 +2,9 @@
 -- each code set, the scanner reading; and what a block of cells is looked up as.
 -- Document 01, "What is built", "Patterns and check", "Tokens and character sets", "Spelling and
 -- scanner reading"; document 02, requests 1 and 3. Assumes nothing.
-use Rattle.helpers.specs.Prelude.{ℕ, zero, suc, ◌+◌, ◌-◌, ◌*◌, ◌/◌, ◌%◌, String, Bool, true, false, ◌&&◌, List, [], ◌∷◌, ◌++◌, map, ltb, eqb, get_or, replicate}
-use Rattle.helpers.specs.Answers.{if◌then◌else◌, same}
+use Rattle.std.specs.Prelude.{◌+◌, ◌-◌, ◌*◌, ◌/◌, ◌%◌, ◌&&◌, ◌∷◌, ◌++◌, if◌then◌else◌}
+use Rattle.helpers.specs.Prelude.{ℕ, zero, suc, String, Bool, false, List, [], map, ltb, eqb, get_or, replicate}
+use Rattle.helpers.specs.Answers.{same}
 use Prim.Native.Char.{code}
 use Prim.Native.String as S
 

@@ -2,8 +2,9 @@
 -- is the number of elements of the lent buffer.
 -- Document 01, "What is built", "The seven jobs and their refusals", "Row record"; document 02,
 -- requests 3, 4 and 12. Assumes nothing.
-use Rattle.helpers.specs.Prelude.{ℕ, zero, suc, ◌+◌, ◌-◌, ◌*◌, ◌/◌, ◌%◌, ◌≤◌, Bool, true, not, ◌&&◌, ◌||◌, List, [], ◌∷◌, ◌++◌, leb, eqb, length, get_or, take, drop}
-use Rattle.helpers.specs.Answers.{if◌then◌else◌, Each, Answer, refuse, accept, Test, refuses, passes, ◌then◌, ask, every, whole, into}
+use Rattle.std.specs.Prelude.{◌+◌, ◌-◌, ◌*◌, ◌/◌, ◌%◌, ◌≤◌, ◌&&◌, ◌||◌, ◌∷◌, ◌++◌, if◌then◌else◌}
+use Rattle.helpers.specs.Prelude.{ℕ, zero, suc, Bool, true, not, List, [], leb, eqb, length, get_or, take, drop}
+use Rattle.helpers.specs.Answers.{Each, Answer, refuse, accept, Test, refuses, passes, ◌then◌, ask, every, whole, into}
 use Rattle.paper.specs.Iso15417.{row, check, stop, Look, is, worn, unknown, found, scanned}
 use Rattle.paper.specs.Crate.{ź, is_scalar, utf8_bytes, Parsed, stops, symbols, parse, spelled}
 

@@ -3,7 +3,8 @@
 -- 12; records for request 4.
 -- Document 01, "Labels on each side of the line"; document 02, requests 1, 4 and 12. Assumes
 -- nothing.
-use Rattle.helpers.specs.Prelude.{ℕ, ◌*◌, String, List, [], ◌∷◌, ◌++◌, length}
+use Rattle.std.specs.Prelude.{◌*◌, ◌∷◌, ◌++◌}
+use Rattle.helpers.specs.Prelude.{ℕ, String, List, [], length}
 use Rattle.helpers.specs.Answers.{Answer, refuse, accept, whole}
 use Rattle.paper.specs.Iso15417.{points, cells, stop}
 use Rattle.paper.specs.Jobs.{encode, scan, unpack, row_length, most}

@@ -4,7 +4,8 @@
 -- the cells of a record) is asked of what there is, and of nothing where nothing was found.
 -- Document 01, "The seven jobs and their refusals" ("Order"); document 02, requests 3, 4 and 12.
 -- Assumes nothing.
-use Rattle.helpers.specs.Prelude.{ℕ, zero, suc, ◌+◌, ◌-◌, ◌||◌, List, [], ◌∷◌, ◌++◌, leb, eqb, length, get_or, take, drop, set, replicate}
+use Rattle.std.specs.Prelude.{◌+◌, ◌-◌, ◌||◌, ◌∷◌, ◌++◌}
+use Rattle.helpers.specs.Prelude.{ℕ, zero, suc, List, [], leb, eqb, length, get_or, take, drop, set, replicate}
 use Rattle.helpers.specs.Answers.{Answer, refuse, accept, Test, refuses, passes, ask, every, whole}
 use Rattle.helpers.specs.Order.{room_for, Earning, ◌of◌into◌gets◌over◌}
 use Rattle.paper.specs.Iso15417.{points, cells, stop, row, check, found, scanned}

@@ -1,6 +1,7 @@
 -- All that is promised of Code 128, in one record; `promises` of proofs/Promises.antt is its proof.
 -- Assumes nothing.
-use Rattle.helpers.specs.Prelude.{ℕ, ◌+◌, ◌-◌, ◌*◌, ◌/◌, ◌%◌, ◌<◌, ◌≤◌, ◌≡◌, ◌↔◌, ◌≢◌, ◌⊎◌, false, some, List, [], ◌∷◌, ◌++◌, eqb, length, get_or, take, drop}
+use Rattle.std.specs.Prelude.{◌+◌, ◌-◌, ◌*◌, ◌/◌, ◌%◌, ◌<◌, ◌≤◌, ◌≡◌, ◌↔◌, ◌≢◌, ◌⊎◌, ◌∷◌, ◌++◌}
+use Rattle.helpers.specs.Prelude.{ℕ, false, some, List, [], eqb, length, get_or, take, drop}
 use Rattle.helpers.specs.Answers.{Each, refuse, accept, Accepted, refuses, ◌then◌, ask, every, whole, into}
 use Rattle.helpers.specs.Owes.{Owes}
 use Rattle.helpers.specs.Order.{in_order, answered_and_earned, due}

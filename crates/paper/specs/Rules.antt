@@ -1,8 +1,9 @@
 -- The rule of the table of patterns, and the crate's numbers held against the standard's table.
 -- Document 01, "Patterns and check", "Tokens and character sets" and, for "none of the 106
 -- patterns", "The seven jobs and their refusals"; document 02, request 1. Assumes nothing.
-use Rattle.helpers.specs.Prelude.{ℕ, suc, ◌-◌, ◌%◌, ◌<◌, ◌≤◌, ◌≡◌, ◌≢◌, Bool, true, false, not, List, [], ◌∷◌, ◌++◌, eqb, length, get_or, take}
-use Rattle.helpers.specs.Answers.{if◌then◌else◌, same, Each}
+use Rattle.std.specs.Prelude.{◌-◌, ◌%◌, ◌<◌, ◌≤◌, ◌≡◌, ◌≢◌, ◌∷◌, ◌++◌, if◌then◌else◌}
+use Rattle.helpers.specs.Prelude.{ℕ, suc, Bool, true, false, not, List, [], eqb, length, get_or, take}
+use Rattle.helpers.specs.Answers.{same, Each}
 use Rattle.paper.specs.Iso15417.{Set, before, A, B, C, Meaning, ascii, pair, FNC, SHIFT, CODE, START, pattern, stop, bar_cells, next, digits, sent, is_shift, column}
 use Rattle.paper.specs.Crate.{À, Ɓ, Ć, Ź, ź, Ż, ż, Ž, letters}
 

@@ -2,8 +2,8 @@
 -- ahead of that pair". Said of code points alone; the parser is not asked. Where a first digit
 -- finds no second, the input is refused; a Ź after such a digit goes ahead of it too.
 -- Assumes nothing.
-use Rattle.helpers.specs.Prelude.{ℕ, ◌+◌, Bool, false, ◌||◌, List, [], ◌∷◌, ◌++◌, eqb}
-use Rattle.helpers.specs.Answers.{if◌then◌else◌}
+use Rattle.std.specs.Prelude.{◌+◌, ◌||◌, ◌∷◌, ◌++◌, if◌then◌else◌}
+use Rattle.helpers.specs.Prelude.{ℕ, Bool, false, List, [], eqb}
 use Rattle.paper.specs.Crate.{À, Ɓ, Ć, Ź, digit}
 
 -- Where one stands in the input: outside set C, in it between two pairs, or in it after the first

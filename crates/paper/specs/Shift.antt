@@ -1,7 +1,8 @@
 -- What the promises on Shift speak of: document 01's scanner reading before request 1, where Shift
 -- did nothing, and where a Shift stands. `set_after` serves a promise on FNC2 too.
 -- Document 02, request 1; document 01, "Spelling and scanner reading". Assumes nothing.
-use Rattle.helpers.specs.Prelude.{ℕ, ◌≤◌, ◌≡◌, ◌⊎◌, Bool, false, ◌||◌, List, [], ◌∷◌, ◌++◌}
+use Rattle.std.specs.Prelude.{◌≤◌, ◌≡◌, ◌⊎◌, ◌||◌, ◌∷◌, ◌++◌}
+use Rattle.helpers.specs.Prelude.{ℕ, Bool, false, List, []}
 use Rattle.helpers.specs.Answers.{Answer, whole}
 use Rattle.paper.specs.Iso15417.{Set, before, A, B, next, sent, is_shift}
 use Rattle.paper.specs.Jobs.{of_list}

@@ -2,8 +2,9 @@
 -- reader of that time, an old reader, answers.
 -- Document 01, "Row record", and pack and unpack of "The seven jobs and their refusals". What it
 -- takes from Jobs did not move with the request. Assumes nothing.
-use Rattle.helpers.specs.Prelude.{ℕ, ◌+◌, ◌-◌, Bool, ◌&&◌, List, ◌∷◌, leb, eqb, length, get_or, take, drop}
-use Rattle.helpers.specs.Answers.{if◌then◌else◌, Answer, ◌then◌, ask, every, whole, into}
+use Rattle.std.specs.Prelude.{◌+◌, ◌-◌, ◌&&◌, ◌∷◌, if◌then◌else◌}
+use Rattle.helpers.specs.Prelude.{ℕ, Bool, List, leb, eqb, length, get_or, take, drop}
+use Rattle.helpers.specs.Answers.{Answer, ◌then◌, ask, every, whole, into}
 use Rattle.paper.specs.Jobs.{row_length, symbol_count, is_cell, bytes, bytes_for, unbytes, all_zero}
 
 -- "The limit is 1 ≤ n ≤ 255", as it was

@@ -13,8 +13,8 @@ use lib.ListN.{length, get_or, drop, drop_of_length-le}
 use lib.Seq.{drop-cons, drop-drop}
 use borrow.Author.Tests.{eq-eqb, ne_eqb}
 use Rattle.helpers.specs.Answers as Paper
-use Rattle.helpers.specs.Answers.{if◌then◌else◌, refuse, accept, Test, refuses, passes, ◌then◌}
-use Rattle.paper.specs.Iso15417.{stop}
+use Rattle.std.specs.Prelude.{if◌then◌else◌}
+use Rattle.helpers.specs.Answers.{refuse, accept, Test, refuses, passes, ◌then◌}
 use Rattle.paper.specs.Jobs.{wanted, last_of}
 use Rattle.helpers.proofs.Answering.{refuse_not_accept, accept_number, then_accept, then_passes}
 use Rattle.helpers.specs.declared.Refusal.{Refusal}

@@ -2,9 +2,9 @@
 -- stores its number.
 -- Assumes nothing.
 use Prim.Native.Nat.{ℕ, zero, suc, ◌+◌, ◌-◌, ◌*◌, ◌<◌, ◌≤◌}
-use mathlib.Core.Path.{◌≡◌, refl, sym, ap, ◌∙◌}
+use mathlib.Core.Path.{◌≡◌, refl, sym, ◌∙◌}
 use mathlib.Core.Bool.{true, false}
-use mathlib.Core.List.{List, [], ◌∷◌, ◌++◌}
+use mathlib.Core.List.{List, []}
 use native.Mathlib.Nat.{sub-zero}
 use native.Mathlib.Numerals.{add-one}
 use native.Mathlib.Omega.{arith}
@@ -14,7 +14,7 @@ use lib.Seq.{drop-drop, take-suc-set}
 use borrow.Author.Tests.{le-leb, lt-leb}
 use Rattle.helpers.proofs.Ahead.{ahead, ahead_one, ahead_stays, ahead_all}
 use Rattle.paper.specs.Iso15417.{Look, is, worn, unknown, found}
-use Rattle.paper.specs.Jobs.{is_start, is_data, Blocks, wrong_block, numbers, fits_at, with_number, block, blocks_from}
+use Rattle.paper.specs.Jobs.{is_start, is_data, wrong_block, numbers, fits_at, with_number, block, blocks_from}
 use Rattle.reader.specs.declared.Found.{Found}
 use Rattle.reader.specs.declared.Found.TheVariants.{Symbol, Worn, Unknown}
 use Rattle.reader.specs.Parts.{look_of}

@@ -1,5 +1,7 @@
 // Read: a row of cells back to the symbol list that it was drawn from. A block that is no pattern
 // is answered as worn or as unknown.
+#![tactic(auto)]
+
 ghost use Rattle.std.specs.Prelude.{◌+◌, ◌*◌, ◌<◌, ◌≤◌, min, ◌≡◌, [], length, take, drop};
 ghost use Rattle.helpers.specs.Answers.{Each, accept, ◌then◌, Gave};
 ghost use Rattle.paper.specs.Iso15417.{found};
@@ -73,6 +75,7 @@ fn find(row: &[u8], at: usize, table: &[u16]) -> Found
 }
 
 // Whether number `m` may stand at block `b`: a START at block 0, data and the check after it.
+#[tactic(auto, unfolding(paper::specs::Jobs::fits_at, paper::specs::Jobs::is_start, paper::specs::Jobs::is_data))]
 fn fits(b: usize, m: u8) -> bool
     ensures { result ≡ fits_at b m }
 {
@@ -192,6 +195,7 @@ fn read_by(row: &[u8], list: &mut [u8], out: &mut [u8]) -> Answer
 
 // Read: a row to its symbol list. The list is cleared before it is used, so a row of up to 255
 // symbols takes a short one.
+#[tactic(auto, unfolding(paper::specs::Jobs::row_length, paper::specs::Jobs::most))]
 pub fn read(row: &[u8], out: &mut [u8]) -> Answer
     ensures { Gave (Paper.read (length out.old) row.now) (number_of result) (second_of result) out.old out.new }
 {

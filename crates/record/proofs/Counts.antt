@@ -10,7 +10,7 @@ use native.Mathlib.Decide.{dec_le}
 use lib.Dec.{leb, eqb}
 use lib.ListN.{length, get_or}
 use borrow.Author.Tests.{le-leb, lt-leb, ne_eqb}
-use Rattle.helpers.specs.Answers.{if◌then◌else◌}
+use Rattle.std.specs.Prelude.{if◌then◌else◌}
 use Rattle.paper.specs.Jobs.{most, possible, row_length, bytes_for, head, record_length, version_of, head_length, count_of, count_fits}
 use Rattle.helpers.proofs.Answering.{and_false}
 use Rattle.paper.proofs.Records.{count_fits_lem}

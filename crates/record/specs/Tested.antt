@@ -1,8 +1,8 @@
 -- The tests of a record before the test of the room, and the parts of them that the code does one
 -- after the other. Nobody audits these.
 -- Document 01, "Unpack: 20, 21, 22, 23, 5."; document 02, request 4. Assumes nothing.
-use Rattle.std.specs.Prelude.{ℕ, ◌-◌, ◌&&◌, ◌||◌, List, [], leb, eqb, length, drop}
-use Rattle.helpers.specs.Answers.{if◌then◌else◌, Answer, accept, ◌then◌, ask}
+use Rattle.std.specs.Prelude.{ℕ, ◌-◌, ◌&&◌, ◌||◌, List, [], leb, eqb, length, drop, if◌then◌else◌}
+use Rattle.helpers.specs.Answers.{Answer, accept, ◌then◌, ask}
 use Rattle.paper.specs.Jobs.{row_length, all_zero, record_length, version_of, head_length, count_of, count_fits, stored_cells}
 
 -- the count of a record; 0 where it has not all arrived, or where no record of its version has it

@@ -13,7 +13,7 @@ use lib.Dec.{eqb}
 use lib.ListN.{length, get_or, drop, drop_of_length-le, length-append}
 use lib.Seq.{drop-cons, length-sets, sets}
 use borrow.Author.Tests.{lt-ltb, le-ltb, eqb-true}
-use Rattle.helpers.specs.Answers.{if◌then◌else◌}
+use Rattle.std.specs.Prelude.{if◌then◌else◌}
 use Rattle.helpers.specs.Terms.{Stored}
 use Rattle.helpers.proofs.Writes.{Writing, writing_begin, writing_block, writing_end}
 use Rattle.paper.specs.Iso15417.{Set, before, A, B, C, next, sent, is_shift, other, read_in, scanned_from}

@@ -2,8 +2,8 @@
 -- at most two elements in the set that it stands in; and what Shift adds to scan's.
 -- Document 01, "Spelling and scanner reading" and "Tokens and character sets"; document 02, request
 -- 1. Assumes nothing.
-use Rattle.std.specs.Prelude.{ℕ, List, [], ◌∷◌, ◌++◌, eqb, drop}
-use Rattle.helpers.specs.Answers.{if◌then◌else◌, Answer, whole}
+use Rattle.std.specs.Prelude.{ℕ, List, [], ◌∷◌, ◌++◌, eqb, drop, if◌then◌else◌}
+use Rattle.helpers.specs.Answers.{Answer, whole}
 use Rattle.helpers.specs.Terms.{bare}
 use Rattle.paper.specs.Iso15417.{Set, before, A, B, C, next, sent, other}
 use Rattle.paper.specs.Crate.{letters, as_list, point_in, spans}

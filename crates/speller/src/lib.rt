@@ -1,5 +1,7 @@
 // A symbol list written out: as the code points that spell it, or as the bytes that a scanner sends
 // for it.
+#![tactic(auto)]
+
 ghost use Rattle.std.specs.Prelude.{◌+◌, ◌<◌, ◌≤◌, ◌≡◌, length};
 ghost use Rattle.std.proofs.lemmas.List.Edits.{sets};
 ghost use Rattle.helpers.specs.Answers.{Each, Gave};
@@ -15,14 +17,14 @@ use helpers::{Answer, Refusal};
 use tokens::CharacterSet;
 
 // What is written for a symbol list: code points, by spell, or bytes, by scan.
-#[derive(Drop)]
+#[derive(Clone, Copy)]
 enum Way {
     Letters,
     Bytes,
 }
 
 // What one number of a symbol list gives: at most two elements.
-#[derive(Drop)]
+#[derive(Clone, Copy)]
 enum Said {
     Nothing,
     One(u32),
@@ -31,6 +33,7 @@ enum Said {
 
 impl Said {
     // The number of its elements.
+    #[tactic(auto, unfolding(crate::specs::Walked::said_of))]
     fn count(self) -> usize
         ensures { result ≡ length (said_of self) }
     {
@@ -43,6 +46,7 @@ impl Said {
 }
 
 // Of sets A and B the other one; any other stays.
+#[tactic(auto, unfolding(tokens::specs::Sets::set_of, paper::specs::Iso15417::other))]
 fn other(set: CharacterSet) -> CharacterSet
     ensures { set_of result ≡ other (set_of set) }
 {
@@ -68,6 +72,7 @@ fn text_after(set: CharacterSet, m: u8) -> CharacterSet
 
 // The bytes that a scanner sends for a number: one character in set A or B, two digits in set C;
 // nothing for a START, a switch, Shift or a function symbol.
+#[tactic(auto, unfolding(crate::specs::Walked::said_of, tokens::specs::Sets::set_of, paper::specs::Iso15417::sent, paper::specs::Iso15417::digits))]
 fn sent(set: CharacterSet, m: u8) -> Said
     ensures { said_of result ≡ sent (set_of set) m }
 {
@@ -149,6 +154,7 @@ fn letters(set: CharacterSet, m: u8) -> Said
 }
 
 // What a number gives, the one way or the other: so that `needed` and `fit` serve both jobs.
+#[tactic(auto, unfolding(crate::specs::Walked::say_of))]
 fn say(way: Way, set: CharacterSet, m: u8) -> Said
     ensures { said_of result ≡ say_of way (set_of set) m }
 {

@@ -7,7 +7,7 @@ use mathlib.Core.Option.{Option, none, some}
 use native.Mathlib.Omega.{arith}
 use lib.Dec.{eqb}
 use borrow.Author.Tests.{eqb-true, eqb-false, ne_eqb}
-use Rattle.helpers.specs.Answers.{if◌then◌else◌}
+use Rattle.std.specs.Prelude.{if◌then◌else◌}
 use Rattle.paper.specs.Iso15417.{Set, before, A, B, C, start_of}
 use Rattle.paper.specs.Crate.{ź, in_both, spans, number_in, point_in, listed, write, free}
 use Rattle.paper.specs.Jobs.{not_fnc2}

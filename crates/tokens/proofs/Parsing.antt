@@ -10,7 +10,8 @@ use native.Mathlib.Nat.{min-eq_left, min-eq_right}
 use native.Mathlib.Omega.{arith}
 use lib.ListN.{length, get_or, set, drop, drop_of_length-le, length-set}
 use lib.Seq.{sets, drop-cons}
-use Rattle.helpers.specs.Answers.{if◌then◌else◌, passes, every}
+use Rattle.std.specs.Prelude.{if◌then◌else◌}
+use Rattle.helpers.specs.Answers.{passes, every}
 use Rattle.helpers.specs.Terms.{first_not}
 use Rattle.helpers.proofs.Seek.{Seeking, seek_begin, seek_turn, seek_hit, seek_end, every_refuses, every_to_end}
 use Rattle.paper.specs.Iso15417.{before}

@@ -9,7 +9,7 @@ use native.Mathlib.Decide.{dec_le, ℕ_discrete}
 use lib.Dec.{eqb}
 use lib.ListN.{drop}
 use borrow.Author.Tests.{le-leb, lt-leb, ne_eqb}
-use Rattle.helpers.specs.Answers.{if◌then◌else◌}
+use Rattle.std.specs.Prelude.{if◌then◌else◌}
 use Rattle.paper.specs.Iso15417.{before, start_of}
 use Rattle.paper.specs.Crate.{À, Ɓ, Ć, Span, span, spans, number_in}
 use Rattle.tokens.specs.Sets.{named}

@@ -8,7 +8,8 @@ use mathlib.Core.List.{List, [], ◌∷◌}
 use native.Mathlib.Omega.{arith}
 use lib.ListN.{length, get_or, drop, drop_of_length-le}
 use lib.Seq.{sets, drop-cons}
-use Rattle.helpers.specs.Answers.{if◌then◌else◌, Test, refuses, passes, every}
+use Rattle.std.specs.Prelude.{if◌then◌else◌}
+use Rattle.helpers.specs.Answers.{Test, refuses, passes, every}
 use Rattle.paper.specs.Iso15417.{before}
 use Rattle.paper.specs.Crate as Crate
 use Rattle.paper.specs.Crate.{State, free, held, Step, halt, hold, write, step, stops, symbols, with_symbol, follow, finished, parse_from, parse}

@@ -1,8 +1,7 @@
 -- The crate's `CharacterSet` is the paper's code set.
 -- Assumes nothing.
-use Rattle.std.specs.Prelude.{ℕ, eqb}
+use Rattle.std.specs.Prelude.{ℕ, eqb, if◌then◌else◌}
 use Rattle.std.proofs.Math.Option.{Option, none, some}
-use Rattle.helpers.specs.Answers.{if◌then◌else◌}
 use Rattle.paper.specs.Iso15417 as Iso
 use Rattle.paper.specs.Iso15417.{Set}
 use Rattle.paper.specs.Crate.{À, Ɓ, Ć}

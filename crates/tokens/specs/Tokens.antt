@@ -1,8 +1,8 @@
 -- The parser's types are the paper's.
 -- Document 01, "Tokens and character sets". Assumes nothing.
-use Rattle.std.specs.Prelude.{ℕ, ◌≡◌, true, false, List, [], ◌∷◌, length}
+use Rattle.std.specs.Prelude.{ℕ, ◌≡◌, true, false, List, [], ◌∷◌, length, if◌then◌else◌}
 use Rattle.std.proofs.lemmas.List.Edits.{sets}
-use Rattle.helpers.specs.Answers.{if◌then◌else◌, refuses, passes, every}
+use Rattle.helpers.specs.Answers.{refuses, passes, every}
 use Rattle.paper.specs.Iso15417.{before}
 use Rattle.paper.specs.Crate as Crate
 use Rattle.paper.specs.Crate.{free, held, halt, hold, write, step, stops, symbols, parse}

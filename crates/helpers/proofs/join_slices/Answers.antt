@@ -1,11 +1,8 @@
 -- `helpers::join_slices` meets its contract: one store a turn, as far as the shorter of the two
 -- reaches.
 -- Assumes nothing.
-use Prim.Native.Nat.{◌-◌, ◌≤◌, min}
-use mathlib.Core.Path.{◌≡◌, refl}
 use native.Mathlib.Omega.{arith}
-use lib.ListN.{length}
-use Rattle.helpers.proofs.Writes.{Storing, storing_turn, storing_short}
+use Rattle.helpers.proofs.Writes.{storing_short}
 use Rattle.helpers.proofs.join_slices.Goals as goal
 
 pub returns : goal.returns

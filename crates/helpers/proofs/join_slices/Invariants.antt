@@ -1,8 +1,7 @@
 use Prim.Native.Nat.{◌-◌, ◌≤◌, min}
-use mathlib.Core.Path.{◌≡◌, refl}
-use native.Mathlib.Omega.{arith}
+use mathlib.Core.Path.{◌≡◌}
 use lib.ListN.{length}
-use Rattle.helpers.proofs.Writes.{Storing, storing_turn, storing_short}
+use Rattle.helpers.proofs.Writes.{Storing}
 use Rattle.helpers.proofs.join_slices.Given as goal
 
 abbrev pub invariant-loop-j : goal.invariant-loop-j

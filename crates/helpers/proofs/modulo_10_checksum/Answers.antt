@@ -3,9 +3,9 @@
 use Prim.Native.Nat.{ℕ, ◌+◌, ◌-◌, ◌%◌}
 use mathlib.Core.Path.{ap, ◌∙◌}
 use native.Mathlib.Omega.{arith}
-use lib.ListN.{length, drop, length-take}
+use lib.ListN.{drop, length-take}
 use Rattle.helpers.specs.Modulo10.{in_turn, modulo10}
-use Rattle.helpers.proofs.Sums.{Parting, parting_begin, parting_turn, parting_end, turn_of, turn_small}
+use Rattle.helpers.proofs.Sums.{parting_turn, parting_end, turn_of, turn_small}
 use Rattle.helpers.proofs.modulo_10_checksum.Goals as goal
 
 pub sum_in_turn-requires : goal.sum_in_turn-requires

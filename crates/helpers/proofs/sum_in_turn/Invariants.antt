@@ -1,7 +1,6 @@
-use Prim.Native.Nat.{ℕ, ◌-◌, ◌*◌, ◌<◌, ◌≤◌}
-use native.Mathlib.Omega.{arith}
-use lib.ListN.{length, get_or}
-use Rattle.helpers.proofs.Sums.{Summing, summing_begin, summing_turn, summing_end, turn_small, product_small}
+use Prim.Native.Nat.{◌-◌}
+use lib.ListN.{length}
+use Rattle.helpers.proofs.Sums.{Summing}
 use Rattle.helpers.proofs.sum_in_turn.Given as goal
 
 abbrev pub invariant-loop-i : goal.invariant-loop-i
