@@ -122,14 +122,20 @@ def hexed(cells):
 
 
 def hexed_bytes(record):
-    return 'bytesOf "' + " ".join("%02X" % b for b in record) + '"'
+    return 'bytes_of "' + " ".join("%02X" % b for b in record) + '"'
+
+
+def wide(words):
+    """The width of a text without its underscores: lines break where they did before the names had
+    any, so that the files differ from the older ones in the names alone."""
+    return len(words) - words.count("_")
 
 
 def wrapped(piece, width):
     """An entry that is too long for one line, as two lines; the second begins with a word below."""
     for word in (" ⇒ ", " gives ", " draws ", " sends "):
         at = piece.find(word)
-        if 0 < at <= width and len(piece) - at <= width:
+        if 0 < at <= width and wide(piece[at:]) <= width:
             return piece[:at] + "\n   " + piece[at:]
     assert False, piece
 
@@ -139,10 +145,10 @@ def listing(entries, width=160):
     lines, line = [], ""
     for e in entries:
         piece = "(%s) ∷" % e
-        if line and len(line) + 1 + len(piece) > width:
+        if line and wide(line) + 1 + wide(piece) > width:
             lines.append(line)
             line = ""
-        if len(piece) > width:
+        if wide(piece) > width:
             lines.append(wrapped(piece, width))
         else:
             line = line + " " + piece if line else piece
@@ -189,7 +195,7 @@ def labels_table(group, name, comment, labels):
     unique = [list(t) for t in dict.fromkeys(tuple(l) for l in labels)]
     answers = crate_answers(unique)
     table(group, name, "Label", comment, ["%s ⇒ %s" % (text(l), row_answer(a)) for l, a in not_retired(unique, answers)])
-    states("%s-hold" % name, "answered %s ≡ expected %s" % (name, name))
+    states("%s_hold" % name, "answered %s ≡ expected %s" % (name, name))
     return list(zip(unique, answers))
 
 
@@ -197,17 +203,17 @@ def points_table(group, name, comment, labels):
     """Like labels_table, with the labels written as code points in hexadecimal."""
     shown = [(" ∷ ".join(["0x%X" % c for c in l] + ["[]"]), a) for l, a in not_retired(labels, crate_answers(labels))]
     table(group, name, "Example", comment, ["%s into %d gives %s" % (x, ROOM, row_answer(a)) for x, a in shown])
-    states("%s-hold" % name, "map (asked encode) %s ≡ map given %s" % (name, name))
+    states("%s_hold" % name, "map (asked encode) %s ≡ map given %s" % (name, name))
 
 
 def examples_table(group, name, job, comment, entries):
     table(group, name, "Example", comment, entries)
     for j in job.split():
-        states("%s-hold" % name if j == job else "%s-of-%s" % (name, j), "map (asked %s) %s ≡ map given %s" % (j, name, name))
+        states("%s_hold" % name if j == job else "%s_of_%s" % (name, j), "map (asked %s) %s ≡ map given %s" % (j, name, name))
 
 
 def model_of(job):
-    return model.encode_with_fnc2 if job == "encodeWithFNC2" else getattr(model, job)
+    return model.encode_with_fnc2 if job == "encode_with_fnc2" else getattr(model, job)
 
 
 def held_to(job, shown, value, room, answer, form):
@@ -246,7 +252,7 @@ hand_a = [
 entries = []
 for shown, value, room, answer in hand_a:
     want = answer if answer[0] == "refuse" else accept([int(d) for d in answer[2]], answer[1])
-    entries.append(held_to("encode", shown, value, room, want, lambda a: plain_answer(a, lambda o: 'cellsOf "%s"' % "".join(map(str, o)))))
+    entries.append(held_to("encode", shown, value, room, want, lambda a: plain_answer(a, lambda o: 'cells_of "%s"' % "".join(map(str, o)))))
 examples_table("a", "unstarred", "encode", """
 "Labels on each side of the line", those without a star except those of 255 and 256 symbols, and the
 lines of "The label program", all as document 01 prints them.
@@ -259,7 +265,7 @@ for shown, value, room, answer in [
     ("1 ∷ []", [1], ROOM, refuse(20, 1)),
 ]:
     entries.append(held_to("unpack", shown, value, room, answer, lambda a: plain_answer(a, listed)))
-examples_table("a", "unstarredRecords", "unpack", """
+examples_table("a", "unstarred_records", "unpack", """
 "Unpack of 1, 0: 22, 0. … Of one byte: 20, 1.", and by request 4 of document 02 "unpack of 2, 1
 answers 22, 0".
 """, entries)
@@ -271,22 +277,22 @@ TABLES.append(said("""
 and by request 4 "Ɓ and 255 A is now accepted with n = 256". The rows are put together from patterns
 of `CHARS`, copied from the crate's source, and the crate writes the same; model.py computed the
 checks, %d, %d and %d.
-""" % LONG_C) + """unfoldable pub longRows : List Example
-longRows =
+""" % LONG_C) + """unfoldable pub long_rows : List Example
+long_rows =
     ((Ɓ ∷ replicate 254 65) into 44024 gives accept 255
-    (cellsOf "%s" ++ (times 254 (cellsOf "%s") ++ cellsOf "%s %s"))) ∷
+    (cells_of "%s" ++ (times 254 (cells_of "%s") ++ cells_of "%s %s"))) ∷
     ((Ć ∷ times 50 (points "0123456789") ++ points "01234567") into 44024 gives accept 255
-    (cellsOf "%s" ++ (times 50 (cellsOf "%s") ++
-    cellsOf "%s %s %s"))) ∷
+    (cells_of "%s" ++ (times 50 (cells_of "%s") ++
+    cells_of "%s %s %s"))) ∷
     ((Ɓ ∷ replicate 255 65) into 44024 gives accept 256
-    (cellsOf "%s" ++ (times 255 (cellsOf "%s") ++ cellsOf "%s %s"))) ∷ []
+    (cells_of "%s" ++ (times 255 (cells_of "%s") ++ cells_of "%s %s"))) ∷ []
 """ % (PATTERNS[104], PATTERNS[33], PATTERNS[LONG_C[0]], STOP,
        PATTERNS[105], pairs5, " ".join(PATTERNS[m] for m in (1, 23, 45, 67)), PATTERNS[LONG_C[1]], STOP,
        PATTERNS[104], PATTERNS[33], PATTERNS[LONG_C[2]], STOP))
-COUNTS.append(("a", "longRows", 3))
+COUNTS.append(("a", "long_rows", 3))
 for label, symbols in (("Ɓ" + "A" * 254, A254), ("Ć" + "0123456789" * 50 + "01234567", C508), ("Ɓ" + "A" * 255, A255)):
     assert crate_answers([P(label)]) == [model.encode(ROOM, P(label))] == [accept(model.cells_of(symbols), len(symbols))]
-states("longRows-hold", "map (asked encode) longRows ≡ map given longRows")
+states("long_rows_hold", "map (asked encode) long_rows ≡ map given long_rows")
 
 entries = []
 for shown, value, room, answer in [
@@ -348,16 +354,16 @@ label, its symbols, its check and what a scanner sends. The sums that give the c
 104+33+82+135=354, 354+396+60+204=1014, 103+48+84+126+68+90+114+245=878 and
 104+55+146+225+292+400+414+476+584+585=3281.
 """, entries, each=3)
-states("published-hold", "map parsedAs published ≡ map printedAs published")
+states("published_hold", "map parsed_as published ≡ map printed_as published")
 
 wiki = "11010000100 11101110110 10110111000 10110111000 10011100110 11001110010 11001011100 10001000110 11101011000 1100011101011"
 assert "".join(map(str, model.encode(ROOM, P("ÀPJJ123C"))[2])) == wiki.replace(" ", "")
 aim = " ".join("".join("10"[i % 2] * int(w) for i, w in enumerate(ws)) for ws in "211214 111323 231311 113123 113123 2331112".split())
 assert aim == " ".join(PATTERNS[m] for m in (104, 33, 41, 45, 45)) + " " + STOP
-entries = ['points "ÀPJJ123C" into 112 gives accept 8 (cellsOf "%s")' % wiki,
-           'points "ƁAIM" into 68 gives accept 4 (cellsOf "%s")' % aim]
+entries = ['points "ÀPJJ123C" into 112 gives accept 8 (cells_of "%s")' % wiki,
+           'points "ƁAIM" into 68 gives accept 4 (cells_of "%s")' % aim]
 assert model.encode(112, P("ÀPJJ123C"))[0] == model.encode(68, P("ƁAIM"))[0] == "accept"
-examples_table("b", "publishedRows", "encode", """
+examples_table("b", "published_rows", "encode", """
 Two of their rows: that of PJJ123C from the bar patterns in the article's table, that of AIM from
 the standard's widths 211214 111323 231311 113123 113123 2331112.
 """, entries)
@@ -373,7 +379,7 @@ the longest prefix of the label that the crate accepts with some ending, and eac
 with these endings: none, À, 0, 00, Ź0, A, a. The crate cannot be asked about D800..DFFF and above
 10FFFF, which are no Rust chars, nor about the length of a buffer; and it has no upper limit. The
 labels with ź that the crate accepts, and that encode refuses by request 12 of document 02, stand in
-`withFNC2`.
+`with_fnc2`.
 """))
 
 full = open(CODE128, encoding="utf-8").read()
@@ -381,19 +387,19 @@ assert "const STOP: Encoding = [1, 1, 0, 0, 0, 1, 1, 1, 0, 1, 0];" in full and "
 flat = hexed([int(d) for p in PATTERNS for d in p])[1:-1]
 parts = [flat[i:i + 98] for i in range(0, len(flat), 98)]
 TABLES.append("""-- `CHARS`, all 1,166 cells as they stand in the crate's source
-unfoldable pub crateChars : List ℕ
-crateChars =
+unfoldable pub crate_chars : List ℕ
+crate_chars =
     take 1166 (fours (
     %s))
 
 -- `STOP` and then `TERM`
-unfoldable pub crateStop : List ℕ
-crateStop = cellsOf "11000111010 11"
-""" % " ++\n    ".join('cellsOf "%s"' % p for p in parts))
-COUNTS.append(("c", "crateChars", 107))
-states("crate-chars", "chars ≡ crateChars")
-states("crate-patterns", "cells (count 0 106) ≡ crateChars")
-states("crate-stop", "stop ≡ crateStop")
+unfoldable pub crate_stop : List ℕ
+crate_stop = cells_of "11000111010 11"
+""" % " ++\n    ".join('cells_of "%s"' % p for p in parts))
+COUNTS.append(("c", "crate_chars", 107))
+states("crate_chars_lem", "chars ≡ crate_chars")
+states("crate_patterns", "cells (count 0 106) ≡ crate_chars")
+states("crate_stop_lem", "stop ≡ crate_stop")
 
 widths = []
 for p in PATTERNS:
@@ -407,49 +413,49 @@ for p in PATTERNS:
 assert widths[0] == "212222" and widths[105] == "211232"
 lines = [" ".join(widths[i:i + 20]) for i in range(0, 106, 20)]
 TABLES.append("""-- the widths of the bars and spaces of each pattern, counted in the crate's cells by tools/examples
-unfoldable pub crateWidths : List ℕ
-crateWidths =
+unfoldable pub crate_widths : List ℕ
+crate_widths =
     %s
 
 -- how many cells of each pattern are bars, counted in the same way
-unfoldable pub crateBars : List ℕ
-crateBars = cellsOf "%s"
-""" % (" ++\n    ".join('cellsOf "%s"' % x for x in lines), "".join(str(p.count("1")) for p in PATTERNS)))
-COUNTS.append(("c", "crateWidths", 106))
-COUNTS.append(("c", "crateBars", 106))
-states("crate-widths", "joined (map runs (elevens 106 crateChars)) ≡ crateWidths")
-states("crate-bars", "map barCells (elevens 106 crateChars) ≡ crateBars")
+unfoldable pub crate_bars : List ℕ
+crate_bars = cells_of "%s"
+""" % (" ++\n    ".join('cells_of "%s"' % x for x in lines), "".join(str(p.count("1")) for p in PATTERNS)))
+COUNTS.append(("c", "crate_widths", 106))
+COUNTS.append(("c", "crate_bars", 106))
+states("crate_widths_lem", "joined (map runs (elevens 106 crate_chars)) ≡ crate_widths")
+states("crate_bars_lem", "map bar_cells (elevens 106 crate_chars) ≡ crate_bars")
 
 # every number in every set
 SPECIAL = "ŻźŽżŹ"
 numbers = [P("À") + list(range(a, b)) for a, b in ((0x20, 0x40), (0x40, 0x60), (0x00, 0x10), (0x10, 0x20))] + [P("À" + SPECIAL), P("ÀŻŽżŹ")]
 numbers += [P("Ɓ") + list(range(0x20, 0x40)), P("Ɓ") + list(range(0x40, 0x60)), P("Ɓ") + list(range(0x60, 0x7F)) + [0xF7], P("Ɓ" + SPECIAL), P("ƁŻŽżŹ")]
 numbers += [P("Ć" + "".join("%02d" % m for m in range(a, a + 25))) for a in (0, 25, 50, 75)] + [P("ĆŹ")]
-got = labels_table("c", "everyNumber", "every number of each set, but for the switches and FNC2", numbers)
+got = labels_table("c", "every_number", "every number of each set, but for the switches and FNC2", numbers)
 assert all(a[0] == "accept" for _, a in got)
 
 switches = ["ÀƁ", "ÀĆ", "ƁÀ", "ƁĆ", "ĆÀ", "ĆƁ", "ÀƁa", "ÀĆ00", "ƁÀ\x1f", "ƁĆ99", "ĆÀ\x00", "ĆƁz", "ÀƁÀƁ", "ÀĆÀĆ", "ƁĆƁĆ", "ÀƁĆÀĆƁÀ", "ĆƁÀĆƁÀĆ", "Ć12À\x01Ɓ~Ć34",
             "ÀAƁaĆ55Ɓ5À5", "ĆŹƁŹÀŹĆŹ", "ÀĆ99Ɓ99À99", "ÀÀ", "ƁƁ", "ĆĆ", "ÀƁƁ", "ƁÀÀ", "ÀĆĆ", "ĆÀÀ", "ĆƁƁ", "Ć12Ć34", "ÀAÀ", "ƁaƁ", "ƁaÀ\x01a", "ÀĆ1À", "ÀĆ1Ɓ", "ÀĆ1Ć",
             "Ć1À", "Ć1Ɓ", "Ć1Ć", "Ć123À", "Ć123Ɓ4", "ÀƁ\x1f", "ƁÀa", "ÀĆA", "ĆÀa", "ĆƁ\n"]
-labels_table("c", "everySwitch", "every switch, to another set and to the current one, and what follows it", [P(s) for s in switches])
+labels_table("c", "every_switch", "every switch, to another set and to the current one, and what follows it", [P(s) for s in switches])
 
 shifts = [start + c for start in "ÀƁĆ" for c in "ŽżźŻŹ"]
 shifts += ["ÀŽa", "ÀŽ\x01", "ƁŽ\x01", "ƁŽa", "ƁŽA", "ÀŽŽ", "ÀżA", "Ɓż€", "ƁźŻżŹ", "ĆŹŹŹ", "Ć12Ž", "Ć1Ž2", "Ć1ż2", "Ć1ź2", "Ć1Ż2", "ĆƁŽ", "ĆÀż", "ÀĆŽ", "ƁĆż"]
-labels_table("c", "everyFunction", "Shift and the function symbols in every set, without FNC2 in sets A and B: in encode Ž shifts nothing, and set C has Ź alone",
+labels_table("c", "every_function", "Shift and the function symbols in every set, without FNC2 in sets A and B: in encode Ž shifts nothing, and set C has Ź alone",
              [P(s) for s in shifts])
 
 held = ["Ć12", "Ć1Ź2", "ĆŹ12", "Ć1ŹŹ2", "Ć1ŹŹŹ2", "ĆŹ1Ź2", "ĆŹŹ1Ź2", "Ć12Ź", "ĆŹ1Ź2Ź", "Ć1Ź234", "Ć1Ź23Ź4", "Ć12Ź34", "Ć12Ź3Ź4", "Ć1ŹŹ23ŹŹ4Ź", "Ć0Ź0", "Ć9Ź9", "Ć00", "Ć99",
         "Ć09", "Ć90", "ƁĆ1ŹŹ2", "ƁĆ1Ź2Ɓ", "Ć1Ź2ÀA", "Ć1Ź2Ɓa", "Ć1234567890", "Ć1", "Ć123", "Ć12345", "Ć1Ź", "Ć1ŹŹ", "Ć1Ź23", "Ć12Ź3", "Ć12Ź3Ź", "Ć1ŹÀ", "Ć1ŹƁ2", "Ć1ŹĆ2", "Ć1ŹA", "Ć1A",
         "Ć1 2", "ĆA1", "Ć-1", "Ć1/", "Ć1:", "Ć/", "Ć:", "Ć12a", "Ć1a2", "Ć1Ź2a", "ÀĆ1", "ÀĆ1Ź", "ƁĆ1Ź2Ź3"]
-labels_table("c", "everyPair", "pairs, digits held across Ź, digits left over, and switches while a digit is held", [P(s) for s in held])
+labels_table("c", "every_pair", "pairs, digits held across Ź, digits left over, and switches while a digit is held", [P(s) for s in held])
 
 foreign = [P("Ć") + l for l in ([0x661, 0x662], [0x661, 49, 50], [49, 0x661], [0xFF11, 0xFF12], [49, 0xFF12], [0xFF11, 50], [0x967, 0x968], [0xB2, 0xB3], [49, 0xB2], [0x1D7CF, 50])]
 foreign += [P("À") + [0x661], P("À") + [0xB2], P("Ɓ") + [0xFF11], P("Ɓ") + [0x2460], [0x661, 49]]
-points_table("c", "foreignDigits", "digits that are not ASCII", foreign)
+points_table("c", "foreign_digits", "digits that are not ASCII", foreign)
 
 lone = [[]] + [[c] for c in (0x00, 0x30, 0x41, 0x7F, 0x80, 0xC0, 0x106, 0x181, 0xF7, 0x179, 0x7FF, 0x800, 0xFFFF, 0x10000, 0x10FFFF)]
 lone += [P(x) for x in ("AA", "12", "AÀ", "ŹÀ", " À", "\ufeffÀ", "A\u0300")]
-points_table("c", "firstPoints", "what a label may begin with, and Error::Length; 41 300 is A with a combining accent, not À", lone)
+points_table("c", "first_points", "what a label may begin with, and Error::Length; 41 300 is A with a combining accent, not À", lone)
 
 doc = ["ƁHE1234A*1", "ÀHE@$AĆ123456", "À\x06", "ÀHELLO", "ÀXYĆ2199", "ƁxyZÀ199!*1", "ƁŹ4218402050À0", "ÀB\x06", "ÀPJJ123C", "ƁAIM", "ƁAIMĆ1234", "ƁWikipedia",
        "ĆŹ0012345678901234567890", "ĆŹ0109501101530003Ɓ", "Ɓ-Rattle 0.1-"]
@@ -494,7 +500,7 @@ while len(labels) < 30:
     if model.encode_with_fnc2(ROOM, label)[0] == "refuse":
         labels.append(label)
         k += 1
-labels_table("c", "randomlyWrong", "random labels with one code point changed, so that they are refused", labels)
+labels_table("c", "randomly_wrong", "random labels with one code point changed, so that they are refused", labels)
 
 
 # labels that have a given check
@@ -511,7 +517,7 @@ wanted = [(s, c) for c in (0, 1, 64, 95, 96, 99, 101, 102, 97) for s in (0xC0, 0
 labels = [with_check(s, c) for s, c in wanted]
 labels = [l for (s, c), label in zip(wanted, labels)
           for l in ([label, with_check(s, c, fnc2=False)] if FNC2 in label else [label])]
-labels_table("c", "checksOn", "for each of the checks 0, 1, 64, 95, 96, 99, 101, 102 and 97, one label without ź of each START", labels)
+labels_table("c", "checks_on", "for each of the checks 0, 1, 64, 95, 96, 99, 101, 102 and 97, one label without ź of each START", labels)
 
 # the labels with ź that the crate accepts: those left out above, others, and one above the limit
 more = ["ƁAźź", "ĆƁź", "ĆÀź", "Ć97Ɓź", "Ć97Àź", "ÀƁź", "ƁÀź", "ÀźƁź", "ƁźĆ12", "ÀĆ12Ɓź", "Ć1Ź2Ɓź", "ƁźĆ1Ź2", "ƁŽź", "ÀŹź", "Ɓ÷ź", "À\x00ź", "ƁźAź", "ÀAIMź", "ƁAIMĆ1234Ɓź", "ÀŻźĆ99"]
@@ -521,16 +527,16 @@ shown = {tuple(labels[-1]): "Ɓ ∷ replicate 4000 65 ++ (0x17A ∷ [])"}
 entries = []
 for label, answer in {tuple(l): a for l, a in RETIRED}.items():
     place = "".join(map(chr, label)).index("ź")
-    entries.append("%s firstAt %d gives %s" % (shown.get(label) or "points " + text(label), place, row_answer(answer)))
-table("c", "withFNC2", "WithFNC2", """
+    entries.append("%s first_at %d gives %s" % (shown.get(label) or "points " + text(label), place, row_answer(answer)))
+table("c", "with_fnc2", "WithFNC2", """
 The labels with ź that the crate accepts: those left out of the tables above, and others, one of
 them with more than 4,000 symbols. Before request 12 of document 02 they were answered by the
 crate's row, or by 4 above the limit; now they are refused 19 at their first ź, whose place was
 looked up in the text.
 """, entries)
-COUNTS.append(("k", "withFNC2", len(entries)))
-states("withFNC2-before", "map (answerOf encodeWithFNC2) withFNC2 ≡ map ofCrate withFNC2")
-states("withFNC2-hold", "map (answerOf encode) withFNC2 ≡ map retired withFNC2")
+COUNTS.append(("k", "with_fnc2", len(entries)))
+states("with_fnc2_before", "map (answer_of encode_with_fnc2) with_fnc2 ≡ map of_crate with_fnc2")
+states("with_fnc2_hold", "map (answer_of encode) with_fnc2 ≡ map retired with_fnc2")
 
 # sweeps
 FAR = [0x7FF, 0x800, 0xD7FF, 0xE000, 0xFFFF, 0x10000, 0x10FFFF]
@@ -554,9 +560,9 @@ table("c", "sweeps", "Sweep", """
 Every code point below 512 and 7FF, 800, D7FF, E000, FFFF, 10000 and 10FFFF, put between two texts:
 those that are not refused 3 at that place, in their order. The crate was run on all other code
 points up to 10FFFF too, and refuses each with Error::Character. The crate accepts ź in sets A and
-B, and encode refuses it there by 19: see `fnc2Swept`.
+B, and encode refuses it there by 19: see `fnc2_swept`.
 """, sweeps, each=SWEPT + len(FAR))
-states("sweeps-hold", "map passing sweeps ≡ map kept sweeps")
+states("sweeps_hold", "map passing sweeps ≡ map kept sweeps")
 
 # ================================================================ d. read
 
@@ -572,8 +578,8 @@ for label, answer in labels:
     used.add(n)
     s = "".join(map(str, row))
     symbols = [PATTERNS.index(s[11 * i:11 * i + 11]) for i in range(n)]
-    entries.append(held_to("read", "rowOf %d %s" % (n, hexed(row)), row, n, accept(symbols), lambda a: plain_answer(a, listed)))
-examples_table("d", "readBack", "read", """
+    entries.append(held_to("read", "row_of %d %s" % (n, hexed(row)), row, n, accept(symbols), lambda a: plain_answer(a, listed)))
+examples_table("d", "read_back", "read", """
 rows that the crate wrote, read into a buffer just long enough; the symbols are the places of the
 row's blocks in the crate's `CHARS`
 """, entries)
@@ -598,7 +604,7 @@ def reading(name, comment, cases, group="d"):
         if isinstance(row, tuple):
             shown, value = row
         else:
-            shown, value = 'cellsOf "%s"' % row, [int(d) for d in row.replace(" ", "")]
+            shown, value = 'cells_of "%s"' % row, [int(d) for d in row.replace(" ", "")]
         entries.append(held_to("read", shown, value, room, answer, lambda a: plain_answer(a, listed)))
     examples_table(group, name, "read", comment, entries)
 
@@ -606,7 +612,7 @@ def reading(name, comment, cases, group="d"):
 NONE = "11000111010"   # the first eleven cells of the stop
 assert NONE not in PATTERNS
 ZERO, ONES = "0" * 11, "1" * 11
-reading("readLengths", """
+reading("read_lengths", """
 Refusals 10 and 11, by hand: a row has 11(n+1)+13 cells with 1 ≤ n ≤ 4,000, and 11 gives the place
 of the first cell neither 0 nor 1.
 """, [
@@ -637,7 +643,7 @@ of the first cell neither 0 nor 1.
     (rows(put(PA, 0, "2"), put(PATTERNS[0], 5, "3")), MOST, refuse(11, 0)),
     (rows(103, 99, put(PATTERNS[99], 1, "2"), stop=put(STOP, 3, "2")), MOST, refuse(11, 23)),
 ])
-reading("readBlocks", """
+reading("read_blocks", """
 Refusals 12, 16 and 13, by hand: the first block from the left that is no pattern, 16 where its
 number of bar cells is odd and else 12; or that is not a START at block 0, or that is above 102
 after it. They come before 15, 14 and 5.
@@ -709,7 +715,7 @@ cases += [
     (rows(flip(PA, 0), 1, stop=flip(STOP, 0)), 0, refuse(16, 0)),
 ]
 assert all(p.count("1") % 2 == 0 for p in PATTERNS)
-reading("readWorn", """
+reading("read_worn", """
 Refusal 16 and its neighbours, by hand from request 3 of document 02: a block that is no pattern is
 answered 16 where its number of bar cells is odd. Every pattern has an even number, so one cell
 flipped in a pattern makes 16, and two make 12 or another pattern.
@@ -725,7 +731,7 @@ cases += [(rows(103, 0, stop=ZERO + "00"), MOST, refuse(15, 22)), (rows(103, 0, 
           # before 14 and 5
           (rows(103, 1, stop=flip(STOP, 12)), MOST, refuse(15, 34)), (rows(105, 12, 15, stop=flip(STOP, 1)), 0, refuse(15, 34)),
           (rows(104, 0, stop=flip(STOP, 11)), MOST, refuse(15, 33))]
-reading("readStops", "Refusal 15, by hand: it gives the place in the row of the first wrong cell of the last 13.", cases)
+reading("read_stops", "Refusal 15, by hand: it gives the place in the row of the first wrong cell of the last 13.", cases)
 cases = [
     (rows(103, 1), MOST, refuse(14, 0)), (rows(103, 102), MOST, refuse(14, 0)), (rows(104, 0), MOST, refuse(14, 1)), (rows(105, 0), MOST, refuse(14, 2)),
     (rows(105, 12, 13), MOST, refuse(14, 14)), (rows(105, 12, 15), 0, refuse(14, 14)), (rows(105, 13, 14), MOST, refuse(14, 15)), (rows(104, 12, 14), MOST, refuse(14, 13)),
@@ -738,19 +744,19 @@ cases = [
     (rows(104, 33, 41, 45, 99, 12, 34, 87), 7, accept([104, 33, 41, 45, 99, 12, 34])), (rows(104, 98, 99), 2, accept([104, 98])), (rows(104, 95, 96), 2, accept([104, 95])),
     (rows(103, 99, 12, 20), 3, accept([103, 99, 12])), (rows(103, 48, 42, 42, 17, 18, 19, 35, 54), 8, accept([103, 48, 42, 42, 17, 18, 19, 35])),
 ]
-reading("readChecks", "Refusal 14 with the right check number, refusal 5 with n, and rows that are accepted, by hand.", cases)
+reading("read_checks", "Refusal 14 with the right check number, refusal 5 with n, and rows that are accepted, by hand.", cases)
 
 B103 = [104] + [1] * 103
 good = lambda s: [int(d) for m in s + [model.check_of(s)] for d in PATTERNS[m]] + [int(d) for d in STOP]
 assert model.read(255, good(A254)) == accept(A254) and model.read(256, good(A255)) == accept(A255)
-TABLES.append("""-- Two of the rows of `longRows`, read.
-unfoldable pub readLong : List Example
-readLong =
-    (cellsOf "%s" ++ (times 254 (cellsOf "%s") ++ cellsOf "%s %s") into 255 gives accept 255 (104 ∷ replicate 254 33)) ∷
-    (cellsOf "%s" ++ (times 255 (cellsOf "%s") ++ cellsOf "%s %s") into 256 gives accept 256 (104 ∷ replicate 255 33)) ∷ []
+TABLES.append("""-- Two of the rows of `long_rows`, read.
+unfoldable pub read_long : List Example
+read_long =
+    (cells_of "%s" ++ (times 254 (cells_of "%s") ++ cells_of "%s %s") into 255 gives accept 255 (104 ∷ replicate 254 33)) ∷
+    (cells_of "%s" ++ (times 255 (cells_of "%s") ++ cells_of "%s %s") into 256 gives accept 256 (104 ∷ replicate 255 33)) ∷ []
 """ % (PB, PATTERNS[33], PATTERNS[LONG_C[0]], STOP, PB, PATTERNS[33], PATTERNS[LONG_C[2]], STOP))
-COUNTS.append(("d", "readLong", 2))
-states("readLong-hold", "map (asked read) readLong ≡ map given readLong")
+COUNTS.append(("d", "read_long", 2))
+states("read_long_hold", "map (asked read) read_long ≡ map given read_long")
 
 # ================================================================ e. spell, scan, draw
 
@@ -790,7 +796,7 @@ def lists_table(group, name, comment, lists):
         assert model.spell(len(x), s) == accept(P(x)) and model.scan(len(b), s) == accept(P(b)) and model.draw(len(row), s) == accept(row, len(s)), (s, x, b)
         entries.append("(%s) spells %s scans %s draws %s" % (listed(s), text(P(x)), text(P(b)), hexed(row)))
     table(group, name, "Listed", comment, entries, each=3)
-    states("%s-hold" % name, "map threeJobs %s ≡ map threeAnswers %s" % (name, name))
+    states("%s_hold" % name, "map three_jobs %s ≡ map three_answers %s" % (name, name))
 
 
 lists_table("e", "lists", """
@@ -816,8 +822,8 @@ for shown, value, room, answer in bad:
     for job in ("draw", "spell", "scan"):
         e = held_to(job, shown, value, room, answer, lambda a: plain_answer(a, listed))
     entries.append(e)
-examples_table("e", "badLists", "draw spell scan", "\"Draw, spell, scan: 10, 13, 5.\", by hand; the three jobs give the same answers.", entries)
-COUNTS[-1] = ("e", "badLists", 3 * len(bad))
+examples_table("e", "bad_lists", "draw spell scan", "\"Draw, spell, scan: 10, 13, 5.\", by hand; the three jobs give the same answers.", entries)
+COUNTS[-1] = ("e", "bad_lists", 3 * len(bad))
 
 entries = []
 for s, room, answer in [
@@ -827,7 +833,7 @@ for s, room, answer in [
 v = [104] + [33] * 254
 entries.append(held_to("draw", "104 ∷ replicate 254 33", v, 2828, refuse(5, 2829), lambda a: plain_answer(a, listed)))
 entries.append(held_to("draw", "104 ∷ replicate 255 33", v + [33], 2839, refuse(5, 2840), lambda a: plain_answer(a, listed)))
-examples_table("e", "drawShort", "draw", "Refusal 5 of draw, by hand: a row has 11(n+1)+13 cells.", entries)
+examples_table("e", "draw_short", "draw", "Refusal 5 of draw, by hand: a row has 11(n+1)+13 cells.", entries)
 entries = []
 for s, room, answer in [
     ([103], 0, refuse(5, 1)), ([105], 0, refuse(5, 1)), ([105, 12], 2, refuse(5, 3)), ([105, 102], 1, refuse(5, 2)), ([104, 33, 41, 45], 3, refuse(5, 4)), ([103, 99, 12], 3, refuse(5, 4)),
@@ -840,7 +846,7 @@ entries.append("105 ∷ replicate 254 0 into 509 gives accept 509 (Ć ∷ replic
 entries.append(held_to("spell", "105 ∷ replicate 255 0", v + [0], 510, refuse(5, 511), lambda a: plain_answer(a, listed)))
 assert model.spell(7999, [105] + [0] * 3999) == accept([0x106] + [48] * 7998)
 entries.append("105 ∷ replicate 3999 0 into 7999 gives accept 7999 (Ć ∷ replicate 7998 48)")
-examples_table("e", "spellShort", "spell", """
+examples_table("e", "spell_short", "spell", """
 Refusal 5 of spell, by hand; "At most 1 + 2·254 = 509 code points" in document 01, and "spelling
 7,999 code points" by request 4.
 """, entries)
@@ -856,7 +862,7 @@ entries.append("105 ∷ replicate 254 0 into 508 gives accept 508 (replicate 508
 entries.append(held_to("scan", "105 ∷ replicate 255 0", v + [0], 509, refuse(5, 510), lambda a: plain_answer(a, listed)))
 assert model.scan(7998, [105] + [0] * 3999) == accept([48] * 7998)
 entries.append("105 ∷ replicate 3999 0 into 7998 gives accept 7998 (replicate 7998 48)")
-examples_table("e", "scanShort", "scan", """
+examples_table("e", "scan_short", "scan", """
 Refusal 5 of scan, by hand, empty buffers where nothing is sent, and all that 4,000 symbols can send.
 """, entries)
 
@@ -868,9 +874,9 @@ for start, own, other in ((103, "A", "B"), (104, "B", "A")):
         numbers = range(first, first + 16)
         s = [start] + [x for m in numbers for x in (98, m, m)]
         b = [c for m in numbers for c in (SENDS[other][m], SENDS[own][m])]
-        shown = "%d ∷ shiftThenPlain (count %d 16)" % (start, first)
+        shown = "%d ∷ shift_then_plain (count %d 16)" % (start, first)
         entries.append(held_to("scan", shown, s, 32, accept(b), lambda a: plain_answer(a, hexed_bytes)))
-examples_table("e", "shiftEach", "scan", """
+examples_table("e", "shift_each", "scan", """
 Every number below 96, right after a Shift and then once more without one, in set A and in set B: by
 hand from request 1 of document 02, the bytes from the columns of the standard's table.
 """, entries)
@@ -887,7 +893,7 @@ def scanning(name, comment, cases):
     examples_table("e", name, "scan", comment, entries)
 
 
-scanning("shiftBefore", """
+scanning("shift_before", """
 Shift before each number from 96 to 102, two text numbers after it, in set A and in set B: by hand
 from "Shift has no effect and that symbol keeps its meaning in the current set". A switch switches,
 and a second Shift shifts.
@@ -932,11 +938,11 @@ def by_hand(job, cases, form):
 
 
 def shown_cells(t):
-    return 'cellsOf "%s"' % t, [int(d) for d in t.replace(" ", "")]
+    return 'cells_of "%s"' % t, [int(d) for d in t.replace(" ", "")]
 
 
 def shown_bytes(t):
-    return 'bytesOf "%s"' % t, [int(b, 16) for b in t.split()]
+    return 'bytes_of "%s"' % t, [int(b, 16) for b in t.split()]
 
 
 RA, RC = "01 01 D0 9B 33 1D 60", "01 02 D3 96 72 67 63 AC"
@@ -997,7 +1003,7 @@ cases += [("[]", [], ROOM, refuse(20, 0)), ("0 ∷ []", [0], 0, refuse(20, 1)), 
           (*sb([1, 3]), 0, refuse(22, 10)), (*sb([1, 8]), 0, refuse(22, 16)), (*sb([1, 254]), ROOM, refuse(22, 355)), (*sb([1, 255]), ROOM, refuse(22, 356)),
           ("1 ∷ 255 ∷ replicate 353 0", [1, 255] + [0] * 353, ROOM, refuse(22, 356)), ("1 ∷ 255 ∷ replicate 355 0", [1, 255] + [0] * 355, ROOM, refuse(22, 356)),
           ("1 ∷ 255 ∷ replicate 354 0", [1, 255] + [0] * 354, 2828, refuse(5, 2829)), ("1 ∷ 255 ∷ replicate 353 0 ++ (4 ∷ [])", [1, 255] + [0] * 353 + [4], ROOM, refuse(23, 355))]
-entries = by_hand("unpack", cases, lambda o: ("replicate %d %d" % (len(o), o[0])) if len(set(o)) == 1 else 'cellsOf "%s"' % "".join(map(str, o)))
+entries = by_hand("unpack", cases, lambda o: ("replicate %d %d" % (len(o), o[0])) if len(set(o)) == 1 else 'cells_of "%s"' % "".join(map(str, o)))
 assert model.unpack(2829, [1, 255] + [255] * 353 + [0xF8]) == accept([1] * 2829)
 entries.append("1 ∷ 255 ∷ replicate 353 255 ++ (0xF8 ∷ []) into 2829 gives accept 2829 (replicate 2829 1)")
 examples_table("f", "unpackings", "unpack", """
@@ -1024,7 +1030,7 @@ pairs, and a Ź before a pair or after it stays. Labels in which a first digit h
 out: the sentence says nothing about them, and encode refuses them.
 """,
       ["%s becomes %s" % (text(P(x)), text(P(y))) for x, y in MOVED] + ["stays %s" % text(P(x)) for x in STILL], each=2)
-states("settling-hold", "map settles settling ≡ map settled settling")
+states("settling_hold", "map settles settling ≡ map settled settling")
 
 # ================================================================ h. the lent buffer
 
@@ -1068,8 +1074,8 @@ for job, given, before, number, second, after in [
     ("encode", shown_text("Ć97Ɓź"), shown_list(4, 5, 6), 19, 4, shown_list(4, 5, 6)),
     ("encode", shown_text("Ɓź"), shown_list(), 19, 1, shown_list()),
     ("encode", shown_text("Ɓź€"), shown_equal(47, 7), 3, 2, shown_equal(47, 7)),
-    ("encodeWithFNC2", shown_text("Ɓź"), shown_equal(47, 7), 0, 2, then(shown_cells(ROW_FNC2), shown_list(7))),
-    ("encodeWithFNC2", shown_text("Ɓź"), shown_list(4, 5, 6), 5, 46, shown_list(4, 5, 6)),
+    ("encode_with_fnc2", shown_text("Ɓź"), shown_equal(47, 7), 0, 2, then(shown_cells(ROW_FNC2), shown_list(7))),
+    ("encode_with_fnc2", shown_text("Ɓź"), shown_list(4, 5, 6), 5, 46, shown_list(4, 5, 6)),
     ("draw", shown_list(104, 97), shown_equal(47, 7), 0, 2, then(shown_cells(ROW_FNC2), shown_list(7))),
     ("read", shown_cells(ROW_FNC2), shown_list(1, 2, 3), 0, 2, shown_list(104, 97, 3)),
     ("spell", shown_list(104, 97), shown_list(8, 8, 8), 0, 2, ("Ɓ ∷ 0x17A ∷ 8 ∷ []", P("Ɓź") + [8])),
@@ -1108,7 +1114,7 @@ numbers behind that are unchanged" and "A refusal changes no lent memory". An en
 input and the buffer before the call, and then the answer number, the second number and the buffer
 after the call.
 """, entries, each=3)
-states("buffers-hold", "map called buffers ≡ map left buffers")
+states("buffers_hold", "map called buffers ≡ map left buffers")
 
 # ================================================================ i. one block drawn over
 
@@ -1134,7 +1140,7 @@ table("i", "redrawings", "Redrawn", """
 By hand: refusal 13 where the new number may not stand; an acceptance at the data places 103, 206
 and 309, whose weight is 0 modulo 103; and otherwise refusal 14 with the check of the changed list.
 """, entries, each=2)
-states("redrawings-hold", "map ruled redrawings ≡ map twice redrawings")
+states("redrawings_hold", "map ruled redrawings ≡ map twice redrawings")
 
 # ================================================================ j. one cell flipped
 
@@ -1151,13 +1157,13 @@ for s, i, answer in cases:
     cells = good(s)
     cells[i] = 1 - cells[i]
     assert model.read(MOST, cells) == model.read(0, cells) == answer, (s, i, answer)
-    entries.append("(%s) flippedAt %d gives refuse %d %d" % (listed(s), i, *answer[1:]))
+    entries.append("(%s) flipped_at %d gives refuse %d %d" % (listed(s), i, *answer[1:]))
 table("j", "flippings", "Flipped", """
 By hand from request 3 of document 02: refusal 16 with the block of the flipped cell, or 15 with its
 place in the stop, whatever the length of the buffer. First every cell of one row; then cells in the
 START, in data, in the check and in the stop of others.
 """, entries, each=3)
-states("flippings-hold", "map flips flippings ≡ map thrice flippings")
+states("flippings_hold", "map flips flippings ≡ map thrice flippings")
 
 # ================================================================ k. FNC2 retired
 
@@ -1190,7 +1196,7 @@ entries = by_hand("encode", [
     ("Ć ∷ replicate 510 48 ++ (Ɓ ∷ 0x17A ∷ [])", [0x106] + [48] * 510 + [0x181, FNC2], 0, refuse(19, 512)),
     ("À ∷ replicate 4000 0x17A", [0xC0] + [FNC2] * 4000, 0, refuse(19, 1)),
 ], listed)
-examples_table("k", "fnc2Refused", "encode", """
+examples_table("k", "fnc2_refused", "encode", """
 Refusal 19 and its place in the order, by hand from request 12 of document 02: "19 at the first ź
 (its place), after 3 and before 4; in set C ź is still 3".
 """, entries)
@@ -1204,10 +1210,10 @@ def spaced(cells):
     """A row, eleven cells together."""
     cut = len(cells) - 13
     s = "".join(map(str, cells))
-    return 'cellsOf "%s"' % " ".join([s[i:i + 11] for i in range(0, cut, 11)] + [s[cut:]])
+    return 'cells_of "%s"' % " ".join([s[i:i + 11] for i in range(0, cut, 11)] + [s[cut:]])
 
 
-entries = by_hand("encodeWithFNC2", [
+entries = by_hand("encode_with_fnc2", [
     ('points "Ɓź"', P("Ɓź"), 46, shown_row(104, 97, 98)), ('points "Àź"', P("Àź"), 46, shown_row(103, 97, 97)), ('points "ƁAźź"', P("ƁAźź"), 68, shown_row(104, 33, 97, 97, 4)),
     ('points "ĆƁź"', P("ĆƁź"), 57, shown_row(105, 100, 97, 90)), ('points "Ć97Ɓź"', P("Ć97Ɓź"), 68, shown_row(105, 97, 100, 97, 75)),
     *[('points "Ɓź"', P("Ɓź"), room, refuse(5, 46)) for room in (0, 34, 35, 45)],
@@ -1218,7 +1224,7 @@ entries = by_hand("encodeWithFNC2", [
     ("Ɓ ∷ 0x17A ∷ replicate 254 65", [0x181, FNC2] + [65] * 254, 2839, refuse(5, 2840)),
     ("Ɓ ∷ 0x17A ∷ replicate 253 65", [0x181, FNC2] + [65] * 253, 2828, refuse(5, 2829)),
 ], spaced)
-examples_table("k", "fnc2Before", "encodeWithFNC2", """
+examples_table("k", "fnc2_before", "encode_with_fnc2", """
 Document 01's encoder, before request 12, by hand: ź is 97 in sets A and B. The checks are
 104+97=201, 103+97=200, 104+33+2·97+3·97=622, 105+100+2·97=399 and 105+97+2·100+3·97=693, all modulo
 103.
@@ -1226,27 +1232,27 @@ Document 01's encoder, before request 12, by hand: ź is 97 in sets A and B. The
 
 entries = []
 for x, blocks in (("ƁŻ", (104, 96, 97)), ("Ć97", (105, 97, 99)), ("ƁŹ", (104, 102, 0)), ("ÀŻ", (103, 96, 96)), ("Ɓz", (104, 90, 91)), ("ÀĆ97", (103, 99, 97, 87)), ("Ć97ƁŻ", (105, 97, 100, 96, 72))):
-    for job in ("encode", "encodeWithFNC2"):
+    for job in ("encode", "encode_with_fnc2"):
         e = held_to(job, 'points "%s"' % x, P(x), 11 * len(blocks) + 13, shown_row(*blocks), lambda a: plain_answer(a, spaced))
     entries.append(e)
-examples_table("k", "fnc2Beside", "encode encodeWithFNC2", """
+examples_table("k", "fnc2_beside", "encode encode_with_fnc2", """
 Labels without ź that are still accepted, by hand, and that document 01's encoder answers alike: the
 code points beside ź, 97 as the check, and 97 as a pair in set C.
 """, entries)
-COUNTS[-1] = ("k", "fnc2Beside", 2 * len(entries))
+COUNTS[-1] = ("k", "fnc2_beside", 2 * len(entries))
 
 entries = []
 for first, rest, place, shown in (("À", "", 1, "ź"), ("Ɓ", "", 1, "ź"), ("Ć", "", 1, "")):
     tried = [P(first) + [c] + P(rest) for c in [*range(SWEPT), *FAR]]
     assert [label[len(first)] for label in tried if model.encode(ROOM, label) == refuse(19, place)] == P(shown)
     entries.append("swept %s %s %d (%s)" % (text(P(first)), text(P(rest)), place, 'points "%s"' % shown if shown else "[]"))
-table("k", "fnc2Swept", "Sweep", """
+table("k", "fnc2_swept", "Sweep", """
 The code points of `sweeps`, put between two texts: those that are refused 19 at that place, by
 hand. It is ź in sets A and B, and nothing else.
 """, entries, each=SWEPT + len(FAR))
-states("fnc2Swept-hold", "map retires fnc2Swept ≡ map kept fnc2Swept")
+states("fnc2_swept_hold", "map retires fnc2_swept ≡ map kept fnc2_swept")
 
-reading("fnc2Rows", """
+reading("fnc2_rows", """
 Rows with 97 in set A or B, 97 as a pair in set C and 97 as the check, by hand: read answers as
 before request 12.
 """, [
@@ -1257,7 +1263,7 @@ before request 12.
     (rows(104, 97, 98, stop=flip(STOP, 4)), MOST, refuse(15, 37)),
 ], group="k")
 
-lists_table("k", "fnc2Lists", """
+lists_table("k", "fnc2_lists", """
 Lists with 97 in set A, B or C, with the label that spell writes and the bytes that scan sends, by
 hand from document 01 and requests 1 and 12 of document 02; the row is what the crate writes for
 that label. 97 in set A or B is spelled ź and sends nothing; in set C it is the pair.
@@ -1292,11 +1298,11 @@ for s, i, j, blocks in [
     cells = [int(d) for d in rows(*blocks).replace(" ", "")]
     assert cells == traded(s, i, j), (s, i, j)
     entries.append("(%s) exchanging %d with %d draws %s" % (listed(s), i, j, spaced(cells)))
-table("l", "exchangedRows", "Exchange", """
+table("l", "exchanged_rows", "Exchange", """
 Request 9 of document 02: rows with two data blocks exchanged, the crate's patterns put in their
 order by hand, the check left as drawn. Two that are alike leave the row as it was.
 """, entries)
-states("exchangedRows-hold", "map trades exchangedRows ≡ map traded exchangedRows")
+states("exchanged_rows_hold", "map trades exchanged_rows ≡ map traded exchanged_rows")
 
 entries = []
 for shown, s, i, j, answer in [
@@ -1319,7 +1325,7 @@ By hand from request 9: refusal 14 with the check of the exchanged list, whateve
 buffer; and an acceptance where the two places are 103 or 206 apart, or refusal 5 if there is no
 room. The sum moves by the difference of the two numbers times the distance of their places.
 """, entries, each=3)
-states("exchangings-hold", "map exchanges exchangings ≡ map threefold exchangings")
+states("exchangings_hold", "map exchanges exchangings ≡ map threefold exchangings")
 
 # ================================================================ m. up to 4,000 symbols
 
@@ -1327,16 +1333,16 @@ title("m. up to 4,000 symbols")
 entries = []
 for n, fits in ((0, False), (1, True), (255, True), (256, True), (3999, True), (4000, True), (4001, False), (65535, False)):
     assert (model.draw(0, [106] * n) == refuse(13, 0)) == fits and (model.scan(0, [106] * n) == refuse(10, n)) != fits, n
-    entries.append("%d symbolsFit %s" % (n, str(fits).lower()))
+    entries.append("%d symbols_fit %s" % (n, str(fits).lower()))
 for size, fits in ((0, False), (24, False), (34, False), (35, True), (36, False), (46, True), (2828, False), (2829, True), (2830, False), (2839, False), (2840, True), (2841, False),
                    (44013, True), (44023, False), (44024, True), (44025, False), (44034, False), (44035, False), (44036, False), (44046, False)):
     assert (model.read(0, [2] * size) == refuse(11, 0)) == fits and (model.pack(0, [2] * size) == refuse(10, size)) != fits, size
-    entries.append("%d cellsFit %s" % (size, str(fits).lower()))
+    entries.append("%d cells_fit %s" % (size, str(fits).lower()))
 table("m", "sizes", "Size", """
 By hand from request 4 of document 02, "The limit becomes 4,000 everywhere, rows 44,024 cells": which
 lengths of a list and of a row are possible.
 """, entries)
-states("sizes-hold", "map fits sizes ≡ map fitting sizes")
+states("sizes_hold", "map fits sizes ≡ map fitting sizes")
 
 # the label in set C is not in the table: it takes longer to compute
 for label in ([0x181] + [65] * 3999, P("Ć" + "0123456789" * 799 + "01234567")):
@@ -1345,7 +1351,7 @@ table("m", "longest", "Example", """
 A label of 4,000 symbols, by hand: its row fits 44,024 cells. The cells are left out, so that this is
 quickly computed; the crate writes the row that model.py writes.
 """, ["Ɓ ∷ replicate 3999 65 into 44024 gives accept 4000 []"])
-states("longest-hold", "map (asked (briefly encode)) longest ≡ map given longest")
+states("longest_hold", "map (asked (briefly encode)) longest ≡ map given longest")
 
 entries = []
 for start, m, k in ((104, 33, 254), (104, 33, 255), (104, 33, 3999), (103, 0, 3999), (103, 1, 3999), (104, 99, 3999), (105, 102, 3998), (105, 102, 3999)):
@@ -1353,23 +1359,23 @@ for start, m, k in ((104, 33, 254), (104, 33, 255), (104, 33, 3999), (103, 0, 39
     assert check == model.check_of([start] + [m] * k)
     entries.append("(%d ∷ replicate %d %d) checks %d" % (start, k, m, check))
 assert 105 + 102 * (3999 * 4000 // 2) == 815796105
-table("m", "longChecks", "Checked", """
+table("m", "long_checks", "Checked", """
 Checks of a START and k equal numbers m, by hand: START + m·k(k+1)/2 modulo 103. The last has the
 largest sum of all, 815,796,105.
 """, entries)
-states("longChecks-hold", "map checkIn longChecks ≡ map rightCheck longChecks")
+states("long_checks_hold", "map check_in long_checks ≡ map right_check long_checks")
 
 entries = []
 for n, first, size in ((1, [1, 1], 7), (8, [1, 8], 16), (254, [1, 254], 355), (255, [1, 255], 356), (256, [2, 1, 0], 358), (257, [2, 1, 1], 360), (511, [2, 1, 255], 709), (512, [2, 2, 0], 710),
                        (1000, [2, 3, 232], 1381), (3999, [2, 15, 159], 5505), (4000, [2, 15, 160], 5506)):
     got = model.pack(ROOM, [0] * (11 * n + 24))
     assert got[1] == size and got[2][:len(first)] == first and size == len(first) + -(-(11 * n + 24) // 8)
-    entries.append("%d packedAfter %s long %d" % (n, listed(first), size))
+    entries.append("%d packed_after %s long %d" % (n, listed(first), size))
 table("m", "heads", "Headed", """
 By hand from request 4, "Up to 255 symbols are still packed as version 1 … more as version 2": the
 first bytes of the record of n symbols, and the record's length.
 """, entries)
-states("heads-hold", "map headed heads ≡ map begun heads")
+states("heads_hold", "map headed heads ≡ map begun heads")
 
 
 def both_shown(job, cases):
@@ -1385,7 +1391,7 @@ ZEROS, ONE_BITS, BYTES = shown_equal(2840, 0), shown_equal(2840, 1), shown_times
 OF_BYTES = ahead([2, 1, 0], ("replicate 355 0xD2", [0xD2] * 355))
 LEFT_OVER = then(shown_times(356, "11010010"), shown_cells("101"))   # 257 symbols, five spare bits
 OF_LEFT_OVER = ahead([2, 1, 1], then(("replicate 356 0xD2", [0xD2] * 356), ("0xA0 ∷ []", [0xA0])))
-examples_table("m", "secondPackings", "pack", """
+examples_table("m", "second_packings", "pack", """
 Records of version 2, by hand from request 4: rows of 256 and 257 symbols. At 256
 there is no spare bit, at 257 there are five.
 """, both_shown("pack", [
@@ -1414,7 +1420,7 @@ cases = [
     *[(ahead([2, 1, 1], then(shown_equal(356, 0), shown_list(b))), ROOM, refuse(23, 359)) for b in (1, 2, 4, 8, 16, 31)], (ahead([2, 1, 1], shown_equal(357, 255)), 0, refuse(23, 359)),
     (ahead([2, 1, 1], then(shown_equal(356, 0), shown_list(32))), 2851, then(shown_equal(2850, 0), shown_list(1))),
 ]
-examples_table("m", "secondUnpackings", "unpack", """
+examples_table("m", "second_unpackings", "unpack", """
 By hand from request 4: "21 now means neither 1 nor 2; 22 also for that small count, for a count
 above 4,000 and for a version 2 record under 3 bytes, each with 0". Among the counts are 256 and
 4,000 with their bytes the wrong way round.
@@ -1431,11 +1437,11 @@ for i, m, answer in [
     got = model.read(MOST, cells)
     assert got[:2] == answer[:2] and (got == answer if got[0] == "refuse" else got[2] == s[:i] + [m] + s[i + 1:]), (i, m, got)
     entries.append("(%s) at %d drawn %d gives %s" % (FAR_LIST[0], i, m, "refuse %d %d" % answer[1:] if answer[0] == "refuse" else "accept %d (%s)" % answer[1:]))
-table("m", "farRedrawings", "Redrawn", """
+table("m", "far_redrawings", "Redrawn", """
 By hand from request 4, "demand 3's places become all multiples of 103, up to 3,914": one block of a
 row of 4,000 symbols drawn over, by `verdict` alone.
 """, entries)
-states("farRedrawings-hold", "map judged farRedrawings ≡ map judgement farRedrawings")
+states("far_redrawings_hold", "map judged far_redrawings ≡ map judgement far_redrawings")
 
 entries = []
 FAR_PAIR = ("104 ∷ 1 ∷ replicate 3913 0 ++ (2 ∷ replicate 84 0)", [104, 1] + [0] * 3913 + [2] + [0] * 84)   # check 4
@@ -1449,11 +1455,11 @@ for i, j, answer in [
     assert got[:2] == answer[:2] and (got == answer if got[0] == "refuse" else got[2] == left) and model.read(0, traded(s, i, j)) == short, (i, j, got)
     shown_answer = "refuse %d %d" % answer[1:] if answer[0] == "refuse" else "accept %d (%s)" % answer[1:]
     entries.append("(%s) between %d and %d gives %s short refuse %d %d" % (FAR_PAIR[0], i, j, shown_answer, *short[1:]))
-table("m", "farExchangings", "Between", """
+table("m", "far_exchangings", "Between", """
 By hand, two blocks of a row of 4,000 symbols exchanged, 3,914 or 309 places apart or not, by
-`exchangedVerdict` alone.
+`exchanged_verdict` alone.
 """, entries)
-states("farExchangings-hold", "map settledBetween farExchangings ≡ map foretold farExchangings")
+states("far_exchangings_hold", "map settled_between far_exchangings ≡ map foretold far_exchangings")
 
 # ================================================================ the files
 
@@ -1464,20 +1470,20 @@ HEAD = '''-- Answers from outside that the definitions in specs/ are held to: fr
 -- the definitions give every answer in them. Nobody needs to audit them to know what is promised:
 -- that is in specs/.
 -- tools/examples makes this file. Assumes nothing.
-use Prim.Native.Nat.{ℕ, zero, suc, _+_, _-_, _*_, _/_, _%_}
+use Prim.Native.Nat.{ℕ, zero, suc, ◌+◌, ◌-◌, ◌*◌, ◌/◌, ◌%◌}
 use Prim.Native.String.{String}
-use mathlib.Core.Bool.{Bool, true, false, _&&_, not}
-use mathlib.Core.List.{List, [], _∷_, _++_}
+use mathlib.Core.Bool.{Bool, true, false, ◌&&◌, not}
+use mathlib.Core.List.{List, [], ◌∷◌, ◌++◌}
 use lib.Dec.{ltb, eqb}
 use lib.ListN.{length, take, drop, replicate}
-use Rattle·helpers.specs.Answers.{if_then_else_, Answer, refuse, accept, number, second, after}
-use Rattle·paper·specs.specs.Iso15417.{points, check, count, row}
-use Rattle·paper·specs.specs.Crate.{À, Ɓ, Ć, Parsed, symbols, parse}
-use Rattle·paper·specs.specs.Settle.{settle, inside}
-use Rattle·paper·specs.specs.Jobs.{possible, possibleRow, encode, encodeWithFNC2, draw, read, spell, scan, head, pack, recordLength, unpack}
-use Rattle·paper·specs.specs.Labels.{Label, _⇒_}
-use Rattle·paper·specs.specs.Damage.{redrawn, verdict, flipped, flippedVerdict, exchanged, exchangedVerdict}
-use Rattle·paper·proofs.proofs.Computes.{settle-computes, chars-computes, rules-computes, damage-computes}
+use Rattle.helpers.specs.Answers.{if◌then◌else◌, Answer, refuse, accept, number, second, after}
+use Rattle.paper.specs.Iso15417.{points, check, count, row}
+use Rattle.paper.specs.Crate.{À, Ɓ, Ć, Parsed, symbols, parse}
+use Rattle.paper.specs.Settle.{settle, inside}
+use Rattle.paper.specs.Jobs.{possible, possible_row, encode, encode_with_fnc2, draw, read, spell, scan, head, pack, record_length, unpack}
+use Rattle.paper.specs.Labels.{Label, ◌⇒◌}
+use Rattle.paper.specs.Damage.{redrawn, verdict, flipped, flipped_verdict, exchanged, exchanged_verdict}
+use Rattle.paper.proofs.Computes.{settle_computes, chars_computes, rules_computes, damage_computes}
 
 -- ---- how the tables are written
 
@@ -1490,8 +1496,8 @@ digits16 [] = []
 digits16 (c ∷ cs) = digit16 c ++ digits16 cs
 
 -- cells one by one
-unfoldable pub cellsOf : String → List ℕ
-cellsOf text = digits16 (points text)
+unfoldable pub cells_of : String → List ℕ
+cells_of text = digits16 (points text)
 
 -- the four cells of each digit, the first in the top bit
 unfoldable pub fours : List ℕ → List ℕ
@@ -1499,12 +1505,12 @@ fours [] = []
 fours (d ∷ ds) = (d / 8) ∷ (d / 4 % 2) ∷ (d / 2 % 2) ∷ (d % 2) ∷ fours ds
 
 -- the row of n symbols, four cells to a digit
-unfoldable pub rowOf : ℕ → String → List ℕ
-rowOf n text = take (11 * n + 24) (fours (cellsOf text))
+unfoldable pub row_of : ℕ → String → List ℕ
+row_of n text = take (11 * n + 24) (fours (cells_of text))
 
 -- an acceptance with that row
 unfoldable pub accepted : ℕ → String → Answer
-accepted n text = accept n (rowOf n text)
+accepted n text = accept n (row_of n text)
 
 -- the numbers of two digits each
 unfoldable pub pairs16 : List ℕ → List ℕ
@@ -1513,8 +1519,8 @@ pairs16 (a ∷ []) = []
 pairs16 (a ∷ b ∷ ds) = (16 * a + b) ∷ pairs16 ds
 
 -- bytes, two digits each
-unfoldable pub bytesOf : String → List ℕ
-bytesOf text = pairs16 (cellsOf text)
+unfoldable pub bytes_of : String → List ℕ
+bytes_of text = pairs16 (cells_of text)
 
 -- the first n blocks of eleven cells
 unfoldable pub elevens : ℕ → List ℕ → List (List ℕ)
@@ -1532,28 +1538,28 @@ times zero xs = []
 times (suc n) xs = xs ++ times n xs
 
 -- each number right after a Shift, and then once more without one
-unfoldable pub shiftThenPlain : List ℕ → List ℕ
-shiftThenPlain [] = []
-shiftThenPlain (m ∷ ms) = 98 ∷ m ∷ m ∷ shiftThenPlain ms
+unfoldable pub shift_then_plain : List ℕ → List ℕ
+shift_then_plain [] = []
+shift_then_plain (m ∷ ms) = 98 ∷ m ∷ m ∷ shift_then_plain ms
 
 -- ---- what is compared: the answers of the definitions with the answers in a table's entries
 
-infix 15 _into_gives_
-infix 15 _is_checked_sends_
-infix 15 _spells_scans_draws_
-infix 15 _becomes_
-infix 15 _at_drawn_gives_
-infix 15 _flippedAt_gives_
-infix 15 _exchanging_with_draws_
-infix 15 _between_and_gives_short_
-infix 15 _firstAt_gives_
-infix 15 _symbolsFit_
-infix 15 _cellsFit_
-infix 15 _checks_
-infix 15 _packedAfter_long_
+infix 15 ◌into◌gives◌
+infix 15 ◌is◌checked◌sends◌
+infix 15 ◌spells◌scans◌draws◌
+infix 15 ◌becomes◌
+infix 15 ◌at◌drawn◌gives◌
+infix 15 ◌flipped_at◌gives◌
+infix 15 ◌exchanging◌with◌draws◌
+infix 15 ◌between◌and◌gives◌short◌
+infix 15 ◌first_at◌gives◌
+infix 15 ◌symbols_fit◌
+infix 15 ◌cells_fit◌
+infix 15 ◌checks◌
+infix 15 ◌packed_after◌long◌
 -- a job's input, the number of elements of the lent buffer, and the answer
 pub data Example : Type 0 where
-  _into_gives_ : List ℕ → ℕ → Answer → Example
+  ◌into◌gives◌ : List ℕ → ℕ → Answer → Example
 
 unfoldable pub asked : (ℕ → List ℕ → Answer) → Example → Answer
 asked job (x into room gives a) = job room x
@@ -1571,27 +1577,27 @@ briefly job room x = brief (job room x)
 
 -- a label, its symbols, its check, and what a scanner sends for it
 pub data Published : Type 0 where
-  _is_checked_sends_ : String → List ℕ → ℕ → String → Published
+  ◌is◌checked◌sends◌ : String → List ℕ → ℕ → String → Published
 
-unfoldable pub parsedAs : Published → Parsed × ℕ × Answer
-parsedAs (x is s checked c sends b) = (parse (points x), check s, scan (length (points b)) s)
+unfoldable pub parsed_as : Published → Parsed × ℕ × Answer
+parsed_as (x is s checked c sends b) = (parse (points x), check s, scan (length (points b)) s)
 
-unfoldable pub printedAs : Published → Parsed × ℕ × Answer
-printedAs (x is s checked c sends b) = (symbols s, c, accept (length (points b)) (points b))
+unfoldable pub printed_as : Published → Parsed × ℕ × Answer
+printed_as (x is s checked c sends b) = (symbols s, c, accept (length (points b)) (points b))
 
 -- a label with ź that the crate accepts, the place of its first ź, and document 01's answer: the
 -- crate's row, or refusal 4 if that row has more than 4,000 symbols
 pub data WithFNC2 : Type 0 where
-  _firstAt_gives_ : List ℕ → ℕ → Answer → WithFNC2
+  ◌first_at◌gives◌ : List ℕ → ℕ → Answer → WithFNC2
 
-unfoldable pub answerOf : (ℕ → List ℕ → Answer) → WithFNC2 → Answer
-answerOf job (x firstAt i gives a) = job 44024 x
+unfoldable pub answer_of : (ℕ → List ℕ → Answer) → WithFNC2 → Answer
+answer_of job (x first_at i gives a) = job 44024 x
 
-unfoldable pub ofCrate : WithFNC2 → Answer
-ofCrate (x firstAt i gives a) = a
+unfoldable pub of_crate : WithFNC2 → Answer
+of_crate (x first_at i gives a) = a
 
 unfoldable pub retired : WithFNC2 → Answer
-retired (x firstAt i gives a) = refuse 19 i
+retired (x first_at i gives a) = refuse 19 i
 
 -- two texts, a place, and those code points in `tried` that are not refused 3 at that place when
 -- they are put between the texts; or those that are refused 19 there
@@ -1601,11 +1607,11 @@ pub data Sweep : Type 0 where
 unfoldable pub tried : List ℕ
 tried = count 0 512 ++ (0x7FF ∷ 0x800 ∷ 0xD7FF ∷ 0xE000 ∷ 0xFFFF ∷ 0x10000 ∷ 0x10FFFF ∷ [])
 
-unfoldable pub passesAt : ℕ → Answer → Bool
-passesAt place a = not (eqb (number a) 3 && eqb (second a) place)
+unfoldable pub passes_at : ℕ → Answer → Bool
+passes_at place a = not (eqb (number a) 3 && eqb (second a) place)
 
-unfoldable pub retiresAt : ℕ → Answer → Bool
-retiresAt place a = eqb (number a) 19 && eqb (second a) place
+unfoldable pub retires_at : ℕ → Answer → Bool
+retires_at place a = eqb (number a) 19 && eqb (second a) place
 
 -- the elements that have a property
 unfoldable pub those : (ℕ → Bool) → List ℕ → List ℕ
@@ -1613,29 +1619,29 @@ those keeps [] = []
 those keeps (c ∷ cs) = (if keeps c then c ∷ [] else []) ++ those keeps cs
 
 unfoldable pub passing : Sweep → List ℕ
-passing (swept first rest place found) = those (λ c. passesAt place (encode 44024 (points first ++ (c ∷ points rest)))) tried
+passing (swept first rest place found) = those (λ c. passes_at place (encode 44024 (points first ++ (c ∷ points rest)))) tried
 
 unfoldable pub retires : Sweep → List ℕ
-retires (swept first rest place found) = those (λ c. retiresAt place (encode 44024 (points first ++ (c ∷ points rest)))) tried
+retires (swept first rest place found) = those (λ c. retires_at place (encode 44024 (points first ++ (c ∷ points rest)))) tried
 
 unfoldable pub kept : Sweep → List ℕ
 kept (swept first rest place found) = found
 
 -- a symbol list, the label that spells it, what a scanner sends for it, and its row
 pub data Listed : Type 0 where
-  _spells_scans_draws_ : List ℕ → String → String → String → Listed
+  ◌spells◌scans◌draws◌ : List ℕ → String → String → String → Listed
 
-unfoldable pub threeJobs : Listed → List Answer
-threeJobs (s spells x scans b draws r) = spell (length (points x)) s ∷ scan (length (points b)) s ∷ draw (11 * length s + 24) s ∷ []
+unfoldable pub three_jobs : Listed → List Answer
+three_jobs (s spells x scans b draws r) = spell (length (points x)) s ∷ scan (length (points b)) s ∷ draw (11 * length s + 24) s ∷ []
 
-unfoldable pub threeAnswers : Listed → List Answer
-threeAnswers (s spells x scans b draws r) =
+unfoldable pub three_answers : Listed → List Answer
+three_answers (s spells x scans b draws r) =
     accept (length (points x)) (points x) ∷ accept (length (points b)) (points b) ∷ accepted (length s) r ∷ []
 
 -- a label with a Ź inside a pair and the label that it becomes when each such Ź is moved ahead of
 -- its pair; or a label with no Ź inside a pair, which stays as it is
 pub data Settled : Type 0 where
-  _becomes_ : String → String → Settled
+  ◌becomes◌ : String → String → Settled
   stays : String → Settled
 
 unfoldable pub settles : Settled → Bool × List ℕ
@@ -1649,7 +1655,7 @@ settled (stays x) = (false, points x)
 -- a symbol list, a block of its row, the number that is drawn over it, and what read answers then:
 -- `verdict` must say the same, and so must `read` of the changed row
 pub data Redrawn : Type 0 where
-  _at_drawn_gives_ : List ℕ → ℕ → ℕ → Answer → Redrawn
+  ◌at◌drawn◌gives◌ : List ℕ → ℕ → ℕ → Answer → Redrawn
 
 unfoldable pub ruled : Redrawn → List Answer
 ruled (s at i drawn m gives a) = verdict s i m ∷ read 4000 (redrawn i m (row s)) ∷ []
@@ -1665,20 +1671,20 @@ unfoldable pub judgement : Redrawn → Answer
 judgement (s at i drawn m gives a) = a
 
 -- a symbol list, the place of a cell of its row that is flipped, and what read answers then:
--- `flippedVerdict` must say the same, and so must `read` of the changed row, into 4,000 elements
+-- `flipped_verdict` must say the same, and so must `read` of the changed row, into 4,000 elements
 -- and into none
 pub data Flipped : Type 0 where
-  _flippedAt_gives_ : List ℕ → ℕ → Answer → Flipped
+  ◌flipped_at◌gives◌ : List ℕ → ℕ → Answer → Flipped
 
 unfoldable pub flips : Flipped → List Answer
-flips (s flippedAt i gives a) = flippedVerdict s i ∷ read 4000 (flipped i (row s)) ∷ read 0 (flipped i (row s)) ∷ []
+flips (s flipped_at i gives a) = flipped_verdict s i ∷ read 4000 (flipped i (row s)) ∷ read 0 (flipped i (row s)) ∷ []
 
 unfoldable pub thrice : Flipped → List Answer
-thrice (s flippedAt i gives a) = a ∷ a ∷ a ∷ []
+thrice (s flipped_at i gives a) = a ∷ a ∷ a ∷ []
 
 -- a symbol list, two of its places, and its row with these two blocks exchanged
 pub data Exchange : Type 0 where
-  _exchanging_with_draws_ : List ℕ → ℕ → ℕ → List ℕ → Exchange
+  ◌exchanging◌with◌draws◌ : List ℕ → ℕ → ℕ → List ℕ → Exchange
 
 unfoldable pub trades : Exchange → List ℕ
 trades (s exchanging i with j draws cs) = exchanged i j (row s)
@@ -1687,19 +1693,19 @@ unfoldable pub traded : Exchange → List ℕ
 traded (s exchanging i with j draws cs) = cs
 
 -- a symbol list, two of its data places, and what read answers to that row, into 4,000 elements and
--- into none: `exchangedVerdict` must say the first
+-- into none: `exchanged_verdict` must say the first
 pub data Between : Type 0 where
-  _between_and_gives_short_ : List ℕ → ℕ → ℕ → Answer → Answer → Between
+  ◌between◌and◌gives◌short◌ : List ℕ → ℕ → ℕ → Answer → Answer → Between
 
 unfoldable pub exchanges : Between → List Answer
-exchanges (s between i and j gives a short b) = exchangedVerdict s i j ∷ read 4000 (exchanged i j (row s)) ∷ read 0 (exchanged i j (row s)) ∷ []
+exchanges (s between i and j gives a short b) = exchanged_verdict s i j ∷ read 4000 (exchanged i j (row s)) ∷ read 0 (exchanged i j (row s)) ∷ []
 
 unfoldable pub threefold : Between → List Answer
 threefold (s between i and j gives a short b) = a ∷ a ∷ b ∷ []
 
--- the same by `exchangedVerdict` alone, for a long list
-unfoldable pub settledBetween : Between → Answer
-settledBetween (s between i and j gives a short b) = exchangedVerdict s i j
+-- the same by `exchanged_verdict` alone, for a long list
+unfoldable pub settled_between : Between → Answer
+settled_between (s between i and j gives a short b) = exchanged_verdict s i j
 
 unfoldable pub foretold : Between → Answer
 foretold (s between i and j gives a short b) = a
@@ -1720,63 +1726,67 @@ left (calls job x buf k m out) = (k, m, out)
 
 -- a number of symbols, or of cells, and whether a list, or a row, may have it
 pub data Size : Type 0 where
-  _symbolsFit_ : ℕ → Bool → Size
-  _cellsFit_ : ℕ → Bool → Size
+  ◌symbols_fit◌ : ℕ → Bool → Size
+  ◌cells_fit◌ : ℕ → Bool → Size
 
 unfoldable pub fits : Size → Bool
-fits (n symbolsFit b) = possible n
-fits (n cellsFit b) = possibleRow n
+fits (n symbols_fit b) = possible n
+fits (n cells_fit b) = possible_row n
 
 unfoldable pub fitting : Size → Bool
-fitting (n symbolsFit b) = b
-fitting (n cellsFit b) = b
+fitting (n symbols_fit b) = b
+fitting (n cells_fit b) = b
 
 -- a symbol list and its check
 pub data Checked : Type 0 where
-  _checks_ : List ℕ → ℕ → Checked
+  ◌checks◌ : List ℕ → ℕ → Checked
 
-unfoldable pub checkIn : Checked → ℕ
-checkIn (s checks c) = check s
+unfoldable pub check_in : Checked → ℕ
+check_in (s checks c) = check s
 
-unfoldable pub rightCheck : Checked → ℕ
-rightCheck (s checks c) = c
+unfoldable pub right_check : Checked → ℕ
+right_check (s checks c) = c
 
 -- a number of symbols, the first bytes of the record of such a row, and the record's length
 pub data Headed : Type 0 where
-  _packedAfter_long_ : ℕ → List ℕ → ℕ → Headed
+  ◌packed_after◌long◌ : ℕ → List ℕ → ℕ → Headed
 
 unfoldable pub headed : Headed → List ℕ × ℕ
-headed (n packedAfter h long k) = (head n, recordLength n)
+headed (n packed_after h long k) = (head n, record_length n)
 
 unfoldable pub begun : Headed → List ℕ × ℕ
-begun (n packedAfter h long k) = (h, k)
+begun (n packed_after h long k) = (h, k)
 
 '''
 
 HELPERS = [line.split()[2] for line in HEAD.split("\n") if line.startswith("unfoldable pub ")]
 NAMES = [t.split("unfoldable pub ")[k].split()[0] for t in TABLES for k in range(1, t.count("unfoldable pub ") + 1)]
 TAIL = """-- a proof by computation names this on its `unfolding` line: it opens every definition above
-unfoldable pub examples-computes : Unit {0}
-unfolding %s %s settle-computes chars-computes rules-computes damage-computes
-examples-computes = tt
+unfoldable pub examples_computes : Unit {0}
+unfolding %s %s settle_computes chars_computes rules_computes damage_computes
+examples_computes = tt
 """ % (" ".join(HELPERS), " ".join(NAMES))
 
 PROOFS = """-- The definitions give every answer in the tables of Examples.antt, by computation.
 -- tools/examples makes this file. Assumes nothing.
-use mathlib.Core.Path.{_≡_, refl}
+use mathlib.Core.Path.{◌≡◌, refl}
 use mathlib.Core.List.{map}
-use Rattle·paper·specs.specs.Iso15417.{barCells, cells, count, stop}
-use Rattle·paper·specs.specs.Chars.{chars}
-use Rattle·paper·specs.specs.Rules.{runs}
-use Rattle·paper·specs.specs.Jobs.{encode, encodeWithFNC2, draw, read, spell, scan, pack, unpack}
-use Rattle·paper·specs.specs.Labels.{answered, expected}
+use Rattle.paper.specs.Iso15417.{bar_cells, cells, count, stop}
+use Rattle.paper.specs.Chars.{chars}
+use Rattle.paper.specs.Rules.{runs}
+use Rattle.paper.specs.Jobs.{encode, encode_with_fnc2, draw, read, spell, scan, pack, unpack}
+use Rattle.paper.specs.Labels.{answered, expected}
 %s
 """
-used = ["examples-computes"] + [n for n in HELPERS + NAMES if any(n in st.replace("(", "").replace(")", "").split() for _, st in STATEMENTS)]
-lines = textwrap.wrap(", ".join(used), 120, break_on_hyphens=False)
-PROOFS = PROOFS % "\n".join("use Rattle·paper·proofs.proofs.Examples.{%s}" % line.rstrip(",") for line in lines)
+used = ["examples_computes"] + [n for n in HELPERS + NAMES if any(n in st.replace("(", "").replace(")", "").split() for _, st in STATEMENTS)]
+lines = [used[:1]]
+for name in used[1:]:
+    if wide(", ".join([*lines[-1], name]) + ",") > 120:
+        lines.append([])
+    lines[-1].append(name)
+PROOFS = PROOFS % "\n".join("use Rattle.paper.proofs.Examples.{%s}" % ", ".join(line) for line in lines)
 for name, statement in STATEMENTS:
-    PROOFS += "\npub %s : %s\nunfolding examples-computes%s\n%s = refl\n" % (name, statement, " answered expected" if "answered" in statement else "", name)
+    PROOFS += "\npub %s : %s\nunfolding examples_computes%s\n%s = refl\n" % (name, statement, " answered expected" if "answered" in statement else "", name)
 
 if __name__ == "__main__":
     for path, body in ((EXAMPLES, HEAD + "\n".join(TABLES) + "\n" + TAIL), (AGAINST, PROOFS)):
@@ -1784,5 +1794,5 @@ if __name__ == "__main__":
         with open(path, "w", encoding="utf-8") as f:
             f.write(body)
     print("\n".join("%s %-18s %d" % c for c in COUNTS))
-    swept = sum(c for _, n, c in COUNTS if n in ("sweeps", "fnc2Swept"))
+    swept = sum(c for _, n, c in COUNTS if n in ("sweeps", "fnc2_swept"))
     print(sum(c for _, _, c in COUNTS) - swept, "and", swept, "swept")

@@ -12,7 +12,8 @@ use lib.Dec.{ltb}
 use lib.ListN.{length, get_or, take, drop, set, length-set, length-append, length-take, length-drop, length-reverse, take-append-drop, get_or-append}
 use lib.Seq.{length-take-le, take_at, drop_at, drop-drop, get_or-take, get_or-drop, get_or-append-add, get_or-set_same, get_or-set_other, ext_get_or}
 use borrow.Author.Tests.{lt-ltb, le-ltb}
-use Rattle.helpers.specs.Answers.{if◌then◌else◌, refuse, accept}
+use Rattle.std.specs.Prelude.{if◌then◌else◌}
+use Rattle.helpers.specs.Answers.{refuse, accept}
 use Rattle.helpers.specs.Modulo10.{modulo10}
 use Rattle.helpers.proofs.Answering.{each_at, into_accept}
 use Rattle.helpers.proofs.Sums.{check_one}

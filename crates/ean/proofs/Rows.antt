@@ -12,7 +12,8 @@ use lib.Dec.{ltb, eqb}
 use lib.ListN.{length, get_or, take, drop, replicate, length-append, length-drop, take-append-drop, get_or-replicate, get_or-append}
 use lib.Seq.{length-take-le, get_or-take, take_all, take-add, take_at, drop_at, drop-drop, get_or-drop}
 use borrow.Author.Tests.{lt-ltb, le-ltb, eqb-true}
-use Rattle.helpers.specs.Answers.{if◌then◌else◌, same, Each}
+use Rattle.std.specs.Prelude.{if◌then◌else◌}
+use Rattle.helpers.specs.Answers.{same, Each}
 use Rattle.helpers.proofs.Answering.{and_true, each_at, each_map, each_drop}
 use Rattle.helpers.proofs.Same.{same_true}
 use Rattle.ean.specs.Ean13.{set_a, set_b, set_c, in_set, parity_row, guard, centre, in_sets, ean13_row, digit_place, digit_cells, first_of, digit_in, left_set, list_of, digits_read}

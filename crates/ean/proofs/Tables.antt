@@ -12,7 +12,8 @@ use lib.Dec.{T, leb, ltb, eqb}
 use lib.ListN.{length, get_or, set}
 use lib.Seq.{set_out}
 use borrow.Author.Tests.{lt-ltb, le-ltb}
-use Rattle.helpers.specs.Answers.{if◌then◌else◌, same, Each}
+use Rattle.std.specs.Prelude.{if◌then◌else◌}
+use Rattle.helpers.specs.Answers.{same, Each}
 use Rattle.helpers.proofs.Below.{below, at, and_left, and_right}
 use Rattle.helpers.proofs.Same.{same_true, as_equal, as_least, as_same}
 use Rattle.ean.specs.Ean13.{set_a, set_b, set_c, in_set, parity_row, first_of, digit_in, left_set}

@@ -2,9 +2,9 @@
 -- jobs. A cell is 1 for bar and 0 for space; text is bytes; places count from 0.
 -- Document 02, request 2; GS1 General Specifications, EAN/UPC symbology; `src/sym/ean13.rs`. Of the
 -- libraries' words, `reverse` comes in here. Assumes nothing.
-use Rattle.std.specs.Prelude.{reverse}
-use Rattle.helpers.specs.Prelude.{ℕ, zero, suc, ◌+◌, ◌-◌, ◌*◌, ◌/◌, ◌%◌, Bool, true, ◌&&◌, ◌||◌, List, [], ◌∷◌, ◌++◌, map, leb, ltb, eqb, length, get_or, take, drop, replicate}
-use Rattle.helpers.specs.Answers.{if◌then◌else◌, same, Answer, ◌then◌, ask, every, whole, into}
+use Rattle.std.specs.Prelude.{reverse, ◌+◌, ◌-◌, ◌*◌, ◌/◌, ◌%◌, ◌&&◌, ◌||◌, ◌∷◌, ◌++◌, if◌then◌else◌}
+use Rattle.helpers.specs.Prelude.{ℕ, zero, suc, Bool, true, List, [], map, leb, ltb, eqb, length, get_or, take, drop, replicate}
+use Rattle.helpers.specs.Answers.{same, Answer, ◌then◌, ask, every, whole, into}
 use Rattle.helpers.specs.Modulo10.{modulo10}
 use Rattle.helpers.specs.Readers.{read_back}
 

@@ -2,7 +2,8 @@
 -- inputs: each refusal at two (33 has only 0, and 5 only 95 and 13), and each two that stand next to
 -- each other at one that earns both.
 -- Document 02, request 2: "30 …, 31 …, 32 …, 33 …, then 5, in that order". Assumes nothing.
-use Rattle.helpers.specs.Prelude.{ℕ, ◌||◌, List, [], ◌∷◌, ◌++◌, eqb, length, get_or, replicate}
+use Rattle.std.specs.Prelude.{◌||◌, ◌∷◌, ◌++◌}
+use Rattle.helpers.specs.Prelude.{ℕ, List, [], eqb, length, get_or, replicate}
 use Rattle.helpers.specs.Answers.{Answer, refuse, Test, ask, every, whole}
 use Rattle.helpers.specs.Order.{room_for, Earning, ◌of◌into◌gets◌over◌}
 use Rattle.helpers.specs.Readers.{gives}

@@ -1,8 +1,8 @@
 -- All that is promised of EAN-13, in one record; `promises` of proofs/Promises.antt is its proof.
 -- Document 02, request 2. Assumes nothing.
-use Rattle.std.specs.Prelude.{reverse}
-use Rattle.helpers.specs.Prelude.{ℕ, ◌+◌, ◌/◌, ◌%◌, ◌<◌, ◌≤◌, ◌≡◌, ◌↔◌, ◌≢◌, ◌⊎◌, true, List, [], ◌∷◌, ◌++◌, map, eqb, length, get_or, take, set}
-use Rattle.helpers.specs.Answers.{if◌then◌else◌, Each, refuse, accept}
+use Rattle.std.specs.Prelude.{reverse, ◌+◌, ◌/◌, ◌%◌, ◌<◌, ◌≤◌, ◌≡◌, ◌↔◌, ◌≢◌, ◌⊎◌, ◌∷◌, ◌++◌, if◌then◌else◌}
+use Rattle.helpers.specs.Prelude.{ℕ, true, List, [], map, eqb, length, get_or, take, set}
+use Rattle.helpers.specs.Answers.{Each, refuse, accept}
 use Rattle.helpers.specs.Owes.{Owes}
 use Rattle.helpers.specs.Order.{in_order, answered_and_earned, due}
 use Rattle.helpers.specs.Readers.{ReadsBack}
