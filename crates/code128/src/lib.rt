@@ -158,7 +158,6 @@ fn draw_listed(found: Answer, list: &[u8], out: &mut [u8]) -> Answer
 
 // Encode: code points to a row. Refusals 1, 2, 3, 19, 4, 5. A list is cleared before it is used, so
 // a short text takes a short one: 255 symbols of set C are 509 code points.
-#[tactic(auto, unfolding(paper::specs::Jobs::most))]
 pub fn encode(text: &[u32], out: &mut [u8]) -> Answer
     ensures { Gave (encode (length out.old) text.now) (number_of result) (second_of result) out.old out.new }
 {

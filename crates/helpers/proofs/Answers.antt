@@ -12,8 +12,8 @@ use Rattle.helpers.specs.declared.Answer.TheVariants.{Done, Refused}
 use Rattle.helpers.specs.Numbers.{refusal_number, number_of, second_of}
 
 -- the refusal of a number
-refusalOf : ℕ → Refusal
-refusalOf k =
+refusal_of : ℕ → Refusal
+refusal_of k =
     if eqb k 1 then Scalar else if eqb k 2 then Length else if eqb k 3 then Character else if eqb k 4 then Symbols else if eqb k 5 then Room else
     if eqb k 10 then Size else if eqb k 11 then Cell else if eqb k 12 then Pattern else if eqb k 13 then Place else if eqb k 14 then Check else
     if eqb k 15 then Stop else if eqb k 16 then Worn else if eqb k 19 then Retired else if eqb k 20 then Short else if eqb k 21 then Version else
@@ -21,8 +21,8 @@ refusalOf k =
     if eqb k 32 then CheckDigit else Row
 
 -- each refusal has a number of its own, and none has 0
-back : (r : Refusal) → (refusalOf (refusal_number r) ≡ r) × (1 ≤ refusal_number r)
-unfolding refusalOf refusal_number
+back : (r : Refusal) → (refusal_of (refusal_number r) ≡ r) × (1 ≤ refusal_number r)
+unfolding refusal_of refusal_number
 back Scalar = (refl, omega arith)
 back Length = (refl, omega arith)
 back Character = (refl, omega arith)
@@ -45,9 +45,9 @@ back Digit = (refl, omega arith)
 back CheckDigit = (refl, omega arith)
 back Row = (refl, omega arith)
 
-pub answer-determined : (a b : Answer) → number_of a ≡ number_of b → second_of a ≡ second_of b → a ≡ b
+pub answer_determined : (a b : Answer) → number_of a ≡ number_of b → second_of a ≡ second_of b → a ≡ b
 unfolding number_of second_of
-answer-determined (Done n) (Done m) e f = ap Done f
-answer-determined (Done n) (Refused q m) e f = absurd (omega (arith, (back q).1))
-answer-determined (Refused r k) (Done m) e f = absurd (omega (arith, (back r).1))
-answer-determined (Refused r k) (Refused q m) e f = ap₂ Refused (sym (back r).0 ∙ ap refusalOf e ∙ (back q).0) f
+answer_determined (Done n) (Done m) e f = ap Done f
+answer_determined (Done n) (Refused q m) e f = absurd (omega (arith, (back q).1))
+answer_determined (Refused r k) (Done m) e f = absurd (omega (arith, (back r).1))
+answer_determined (Refused r k) (Refused q m) e f = ap₂ Refused (sym (back r).0 ∙ ap refusal_of e ∙ (back q).0) f

@@ -24,18 +24,18 @@ use Rattle.helpers.proofs.Part.{part_stored}
 -- the job's answer is this refusal, and nothing was written
 pub refused : {a : Paper.Answer} {buf : List ℕ} (r : Refusal) (k : ℕ) → a ≡ refuse (refusal_number r) k → Gave a (number_of (Refused r k)) (second_of (Refused r k)) buf buf
 unfolding number second after number_of second_of
-refused {a} {buf} r k e = record { gave-number = rw e; gave-second = rw e; gave-buffer = rw e }
+refused {a} {buf} r k e = record { gave_number = rw e; gave_second = rw e; gave_buffer = rw e }
 
 -- the job's answer is the output, stored from place 0 on
 pub stored : {a : Paper.Answer} {buf m : List ℕ} (n : ℕ) (out : List ℕ) → a ≡ accept n out → length out ≤ length buf → m ≡ sets buf 0 out
     → Gave a (number_of (Done n)) (second_of (Done n)) buf m
 unfolding number second after number_of second_of
-stored {a} {buf} {m} n out e h f = record { gave-number = rw e; gave-second = rw e; gave-buffer = f ∙ sets_front buf out h ∙ rw e }
+stored {a} {buf} {m} n out e h f = record { gave_number = rw e; gave_second = rw e; gave_buffer = f ∙ sets_front buf out h ∙ rw e }
 
 -- the job's answer is what a callee answered, which wrote nothing
 pub handed_on : {a : Paper.Answer} {buf : List ℕ} (v : Answer) → answers v ≡ a → Gave a (number_of v) (second_of v) buf buf
 unfolding answers number second after number_of second_of
-handed_on (Done n) e = rw (← e) (record { gave-number = refl; gave-second = refl; gave-buffer = refl })
+handed_on (Done n) e = rw (← e) (record { gave_number = refl; gave_second = refl; gave_buffer = refl })
 handed_on (Refused r k) e = refused r k (sym e)
 
 -- what a callee answered, by cases

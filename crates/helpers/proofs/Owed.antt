@@ -18,19 +18,19 @@ use Rattle.helpers.specs.Owes.{OneOf, Owes}
 pub one_result : (a : Answer) (k m : ℕ) (buf out : List ℕ) (k' m' : ℕ) (out' : List ℕ)
     → Gave a k m buf out → Gave a k' m' buf out' → (k ≡ k') × (m ≡ m') × (out ≡ out')
 one_result a k m buf out k' m' out' g h =
-    (g.gave-number ∙ sym h.gave-number, g.gave-second ∙ sym h.gave-second, g.gave-buffer ∙ sym h.gave-buffer)
+    (g.gave_number ∙ sym h.gave_number, g.gave_second ∙ sym h.gave_second, g.gave_buffer ∙ sym h.gave_buffer)
 
 pub refusal_keeps : (a : Answer) (k m : ℕ) (buf out : List ℕ) → Gave a k m buf out → k ≢ 0 → out ≡ buf
 unfolding number after
-refusal_keeps (refuse j l) k m buf out g h = g.gave-buffer
-refusal_keeps (accept n o) k m buf out g h = absurd (h g.gave-number)
+refusal_keeps (refuse j l) k m buf out g h = g.gave_buffer
+refusal_keeps (accept n o) k m buf out g h = absurd (h g.gave_number)
 
 stays_case : (a : Answer) (k m : ℕ) (buf out : List ℕ) → ((n : ℕ) (o : List ℕ) → a ≡ accept n o → length o ≤ length buf) → Gave a k m buf out → length out ≡ length buf
 unfolding after
-stays_case (refuse j l) k m buf out f g = ap length g.gave-buffer
+stays_case (refuse j l) k m buf out f g = ap length g.gave_buffer
 stays_case (accept n o) k m buf out f g =
     let fits : length o ≤ length buf = f n o refl in
-    ap length g.gave-buffer ∙ simp (length-append, length-drop) (omega arith)
+    ap length g.gave_buffer ∙ simp (length-append, length-drop) (omega arith)
 
 -- ---- refusals of a list
 
@@ -81,7 +81,7 @@ none_zero (k ∷ ks) p (inr q) = none_zero ks p.1 q
 
 zero_case : (ks : List ℕ) (a : Answer) (m : ℕ) (buf out : List ℕ) → Each (λ k. 1 ≤ k) ks → By ks a → Gave a 0 m buf out → Accepted a
 unfolding number
-zero_case ks (refuse k l) m buf out p q g = none_zero ks p (rw g.gave-number q)
+zero_case ks (refuse k l) m buf out p q g = none_zero ks p (rw g.gave_number q)
 zero_case ks (accept n o) m buf out p q g = tt
 
 -- ---- of a job

@@ -77,6 +77,6 @@ after (accept n out) buf = out ++ drop (length out) buf
 -- afterwards": where the answer is `a`, the call gave the numbers `num` and `sec` and left `out` in
 -- the buffer that held `buf`.
 pub record Gave (a : Answer) (num sec : ℕ) (buf out : List ℕ) : Type 0 where
-  pub gave-number : num ≡ number a
-  pub gave-second : sec ≡ second a
-  pub gave-buffer : out ≡ after a buf
+  pub gave_number : num ≡ number a
+  pub gave_second : sec ≡ second a
+  pub gave_buffer : out ≡ after a buf

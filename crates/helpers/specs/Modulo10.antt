@@ -18,4 +18,4 @@ first_weight false = 3
 -- the digit that, added to the sum, makes a multiple of ten; the sum is the true one, where the
 -- crate's, in bytes, can overflow from 15 digits on
 unfoldable pub modulo10 : Bool → List ℕ → ℕ
-modulo10 evenStart ds = (10 - in_turn (first_weight evenStart) ds % 10) % 10
+modulo10 even_start ds = (10 - in_turn (first_weight even_start) ds % 10) % 10

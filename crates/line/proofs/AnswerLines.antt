@@ -13,7 +13,7 @@ use Rattle.helpers.specs.declared.Refusal.{Refusal}
 use Rattle.helpers.specs.declared.Answer as Code
 use Rattle.helpers.specs.declared.Answer.TheVariants.{Done, Refused}
 use Rattle.helpers.specs.Numbers.{number_of, second_of}
-use Rattle.helpers.proofs.Answers.{answer-determined}
+use Rattle.helpers.proofs.Answers.{answer_determined}
 use Rattle.paper.specs.Jobs.{encode, row_length, most}
 use Rattle.line.specs.Line.{code_points, other_form, content_of, decimal, answer_line, content_line, line_out}
 use Rattle.line.proofs.Bounds.{Low}
@@ -43,21 +43,21 @@ line_drawn n cells e = rw (e, append_snoc)
 
 pub gave_low : (top : ℕ) (a : Answer) → Low top a → top < 10000 → {num sec : ℕ} {buf row : List ℕ} → Gave a num sec buf row → (num < 10000) × (sec < 10000)
 unfolding number second
-gave_low top (refuse k m) low h g = (omega (arith, g.gave-number), omega (arith, g.gave-second))
-gave_low top (accept n r) low h g = (omega (arith, g.gave-number), omega (arith, g.gave-second))
+gave_low top (refuse k m) low h g = (omega (arith, g.gave_number), omega (arith, g.gave_second))
+gave_low top (accept n r) low h g = (omega (arith, g.gave_number), omega (arith, g.gave_second))
 
 -- no refusal has the number 0
 pub refused_number : (v : Code.Answer) {r : Refusal} {k : ℕ} → v ≡ Refused r k → 1 ≤ number_of v
 unfolding number_of second_of
-refused_number v {r} {k} e = elim (dec_lt 0 (number_of v)) [ yes h ↦ h | no h ↦ absurd (never v e (answer-determined v (Done (second_of v)) (omega arith) refl)) ]
+refused_number v {r} {k} e = elim (dec_lt 0 (number_of v)) [ yes h ↦ h | no h ↦ absurd (never v e (answer_determined v (Done (second_of v)) (omega arith) refl)) ]
   where
     never : (v : Code.Answer) {n : ℕ} → v ≡ Refused r k → v ≡ Done n → ⊥
     never v e f = let z : ◌≡◌ {A = ℕ} 0 1 = cc in omega arith
 
 pub gave_refusal : (a : Answer) {num sec : ℕ} {buf row : List ℕ} → 1 ≤ num → Gave a num sec buf row → a ≡ refuse num sec
 unfolding number second
-gave_refusal (refuse k m) h g = rw (g.gave-number, g.gave-second)
-gave_refusal (accept n r) h g = absurd (omega (arith, g.gave-number))
+gave_refusal (refuse k m) h g = rw (g.gave_number, g.gave_second)
+gave_refusal (accept n r) h g = absurd (omega (arith, g.gave_number))
 
 -- an acceptance with the number n, at most `top`: the row stands at the front of its buffer
 pub record Drawn (top : ℕ) (a : Answer) (n : ℕ) (row : List ℕ) : Type 0 where
@@ -67,10 +67,10 @@ pub record Drawn (top : ℕ) (a : Answer) (n : ℕ) (row : List ℕ) : Type 0 wh
 
 pub drawn : (top : ℕ) (a : Answer) → Low top a → {n : ℕ} {buf row : List ℕ} → Gave a 0 n buf row → Drawn top a n row
 unfolding number second after
-drawn top (refuse k m) low g = absurd (omega (arith, g.gave-number))
+drawn top (refuse k m) low g = absurd (omega (arith, g.gave_number))
 drawn top (accept m r) low {n} {buf} {row} g =
-    let count : n ≡ m = g.gave-second in
-    let cells : take (11 * n + 24) row ≡ r = rw g.gave-buffer (take_at r (drop (length r) buf) (11 * n + 24) (omega arith)) in
+    let count : n ≡ m = g.gave_second in
+    let cells : take (11 * n + 24) row ≡ r = rw g.gave_buffer (take_at r (drop (length r) buf) (11 * n + 24) (omega arith)) in
     record { limited = omega arith; clean = rw cells low.2; accepts = rw (cells, count) }
 
 -- ---- the whole line

@@ -195,7 +195,6 @@ fn read_by(row: &[u8], list: &mut [u8], out: &mut [u8]) -> Answer
 
 // Read: a row to its symbol list. The list is cleared before it is used, so a row of up to 255
 // symbols takes a short one.
-#[tactic(auto, unfolding(paper::specs::Jobs::row_length, paper::specs::Jobs::most))]
 pub fn read(row: &[u8], out: &mut [u8]) -> Answer
     ensures { Gave (Paper.read (length out.old) row.now) (number_of result) (second_of result) out.old out.new }
 {

@@ -19,4 +19,4 @@ pub counted : (v : Answer) (n : ℕ) (row buf out : List ℕ) → v ≡ Done n �
 unfolding number_of second_of
 counted v n row buf out e g =
     let gave : Gave (read (length buf) row) 0 n buf out = rw e at g in
-    limited (read (length buf) row) n (read_owes.zero_accepts row n buf out gave) gave.gave-second (λ m s h. (read_size (length buf) row m s h).2)
+    limited (read (length buf) row) n (read_owes.zero_accepts row n buf out gave) gave.gave_second (λ m s h. (read_size (length buf) row m s h).2)

@@ -1,5 +1,7 @@
 // The C face of the nine jobs, seven of Code 128 and two of EAN-13: the same contracts, with the
 // answer by value. include/slatmonief.h declares them.
+#![tactic(auto)]
+
 ghost use Rattle.std.specs.Prelude.{length};
 ghost use Rattle.helpers.specs.Answers.{Gave};
 ghost use Rattle.paper.specs.Jobs.{encode, draw, read, spell, scan, pack, unpack};

@@ -10,6 +10,9 @@ use Rattle.reader.proofs.blocks.Goals as goal
 pub loop-b-init : goal.loop-b-init
 loop-b-init c = walk_begin
 
+-- the ways out of a turn: a number that may not stand at its block is refused 13, a worn block 16,
+-- and any other block that is none of the patterns 12; a number that may stand there is stored, and
+-- the walk goes on
 pub returns-then-not-fits : goal.returns-then-not-fits
 unfolding walk_of refusal_number
 returns-then-not-fits c =

@@ -14,7 +14,8 @@ use Rattle.shapes.proofs.Shaping.{Shaped, row_proper}
 use Rattle.reader.proofs.Judges.{judge_shape, judge_blocks, judge_stop, judge_check}
 use Rattle.reader.proofs.judge.Goals as goal
 
--- what follows from an accepted shape
+-- what follows from an accepted shape: the row is as long as its n symbols ask, and its cells have
+-- two colours only
 proper : (row : List ℕ) (n : ℕ) (v : Answer) → v ≡ Done n → answers v ≡ shaped row → Shaped row n
 proper row n v e h = row_proper row n (said_done e h)
 
