@@ -1,8 +1,8 @@
 // The label program: a line of code points in, a line with encode's answer out. Its memory is three
 // buffers, however much it reads. Where a read or a write fails it ends, and says so on standard
 // error, with how many lines were answered in full. A pipe whose reader goes away is a write that
-// fails, since a program of this language starts with SIGPIPE ignored; bin/label ends by that signal
-// all the same, unless it is ignored there.
+// fails, since a program of this language starts with SIGPIPE ignored; bin/label then gives that
+// signal's status all the same, unless it is ignored there.
 #![tactic(auto)]
 
 ghost use Rattle.std.specs.Prelude.{◌≡◌, ◌+◌, ◌≤◌, length};
