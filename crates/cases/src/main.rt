@@ -8,10 +8,12 @@
 //
 // and the answer has the two numbers, in decimal, and every element of the buffer, in hex. A
 // buffer is lent full of 77.
+#![tactic(auto)]
+
 ghost use Rattle.std.specs.Prelude.{◌<◌, ◌≤◌, ◌+◌, length};
 
 use helpers::Answer;
-use libc::{STDIN_FILENO, STDOUT_FILENO};
+use std::io::Read;
 
 // A number that was read, and the place after it and the blank that follows.
 #[derive(Drop)]
@@ -31,7 +33,7 @@ fn digit(b: u8) -> u32
     }
 }
 
-// A number as wide as `io` prints it. A cast of an element asks each time whether it fits; of a
+// A number as wide as all numbers are printed. A cast of an element asks each time whether it fits; of a
 // parameter it does not.
 fn long(x: u32) -> u64 {
     x as u64
@@ -110,63 +112,64 @@ fn ask(letter: u8, text: &[u32], bytes: &[u8], out: &mut [u8]) -> Answer {
 }
 
 // Writes an answer's two numbers.
-fn show_numbers(a: Answer) {
-    io::print_decimal(STDOUT_FILENO, long(a.number()));
-    io::write_all(STDOUT_FILENO, b" ");
-    io::print_decimal(STDOUT_FILENO, a.second() as u64);
+fn show_numbers(rt: &impl Print, a: Answer) {
+    let number = long(a.number());
+    let second = a.second() as u64;
+    let _ = print!(rt; "{number} {second}");
 }
 
 // Writes every byte of a buffer, so that one written past the output is seen.
-fn show_bytes(out: &[u8]) {
-    io::write_all(STDOUT_FILENO, b" ");
+fn show_bytes(rt: &impl Print, out: &[u8]) {
+    let _ = rt.write_all(b" ");
     let mut i: usize = 0;
     while i < out.len() {
-        io::print_hex(STDOUT_FILENO, helpers::wide(out[i]) as u64, 2);
+        let byte = helpers::wide(out[i]) as u64;
+        let _ = print!(rt; "{byte:02x}");
         i += 1;
     }
-    io::write_all(STDOUT_FILENO, b"\n");
+    let _ = rt.write_all(b"\n");
 }
 
 // The same of a buffer of code points, each with a blank before it.
-fn show_letters(out: &[u32]) {
+fn show_letters(rt: &impl Print, out: &[u32]) {
     let mut i: usize = 0;
     while i < out.len() {
-        io::write_all(STDOUT_FILENO, b" ");
-        io::print_hex(STDOUT_FILENO, long(out[i]), 1);
+        let letter = long(out[i]);
+        let _ = print!(rt; " {letter:x}");
         i += 1;
     }
-    io::write_all(STDOUT_FILENO, b"\n");
+    let _ = rt.write_all(b"\n");
 }
 
 // Runs spell, whose buffer is of code points, and shows what it did.
-fn run_spell(bytes: &[u8], out: &mut [u32]) {
-    show_numbers(speller::spell(bytes, out));
-    show_letters(out);
+fn run_spell(rt: &impl Print, bytes: &[u8], out: &mut [u32]) {
+    show_numbers(rt, speller::spell(bytes, out));
+    show_letters(rt, out);
 }
 
 // Runs any other job, and shows what it did.
-fn run_other(letter: u8, text: &[u32], bytes: &[u8], out: &mut [u8]) {
-    show_numbers(ask(letter, text, bytes, out));
-    show_bytes(out);
+fn run_other(rt: &impl Print, letter: u8, text: &[u32], bytes: &[u8], out: &mut [u8]) {
+    show_numbers(rt, ask(letter, text, bytes, out));
+    show_bytes(rt, out);
 }
 
 // Runs the job of a letter, lent a buffer of `room` elements that are all 77.
-fn run(letter: u8, room: usize, input: &[u32])
+fn run(rt: &impl Print, letter: u8, room: usize, input: &[u32])
     requires { room ≤ 3072 }
 {
     let mut bytes = [0u8; 3072];
     let n = narrow(input, &mut bytes);
     if letter == b'S' {
         let mut letters = [0x77u32; 3072];
-        run_spell(&bytes[0..n], &mut letters[0..room]);
+        run_spell(rt, &bytes[0..n], &mut letters[0..room]);
         return;
     }
     let mut out = [0x77u8; 3072];
-    run_other(letter, input, &bytes[0..n], &mut out[0..room]);
+    run_other(rt, letter, input, &bytes[0..n], &mut out[0..room]);
 }
 
 // Runs the call of one line: the job's letter, the buffer's length, the input.
-fn line(text: &[u8]) {
+fn line(rt: &impl Print, text: &[u8]) {
     if text.len() < 3 {
         return;
     }
@@ -176,7 +179,7 @@ fn line(text: &[u8]) {
         return;
     }
     let room = helpers::shorter(size(values[0]), 3072);
-    run(text[0], room, &values[1..n]);
+    run(rt, text[0], room, &values[1..n]);
 }
 
 // The place of the next newline from `at` on, or the length.
@@ -195,18 +198,36 @@ fn line_end(input: &[u8], at: usize) -> usize
 }
 
 // Runs the calls of all lines, one after the other.
-fn lines(input: &[u8]) {
+fn lines(rt: &impl Print, input: &[u8]) {
     let mut at: usize = 0;
     while at < input.len() {
         let end = line_end(input, at);
-        line(&input[at..end]);
+        line(rt, &input[at..end]);
         at = end + 1;
     }
 }
 
+// Reads until `input` is full, the input ends or a read fails; returns how many bytes there are.
+fn read_full(from: &mut impl Read, input: &mut [u8]) -> usize
+    ensures { result ≤ length input.new }
+{
+    let mut done: usize = 0;
+    while done < input.len() {
+        let n = match from.read(&mut input[done..]) {
+            Ok(n) => n,
+            Err(_) => 0,
+        };
+        if n < 1 {
+            return done;
+        }
+        done += n;
+    }
+    done
+}
+
 // Reads the whole input, which fits 262,144 bytes, and runs its calls.
-fn main() {
+fn main(rt: HostRuntime) {
     let mut input = [0u8; 262144];
-    let n = io::read_full(STDIN_FILENO, &mut input);
-    lines(&input[0..n]);
+    let n = read_full(&mut rt.stdin(), &mut input);
+    lines(&rt, &input[0..n]);
 }

@@ -10,7 +10,8 @@ use native.Mathlib.Omega.{arith}
 use borrow.Author.Tests.{leb-true}
 use lib.Dec.{leb}
 use lib.ListN.{length}
-use Rattle.helpers.specs.Answers.{if◌then◌else◌, Each, Answer, refuse, accept, Test, refuses, passes, ◌then◌, ask, every, into}
+use Rattle.std.specs.Prelude.{if◌then◌else◌}
+use Rattle.helpers.specs.Answers.{Each, Answer, refuse, accept, Test, refuses, passes, ◌then◌, ask, every, into}
 use Rattle.helpers.proofs.Answering.{into_room, into_refuse}
 use Rattle.paper.specs.Iso15417.{row}
 use Rattle.paper.specs.Crate.{is_scalar, utf8_bytes, Parsed, stops, symbols, parse}

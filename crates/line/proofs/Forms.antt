@@ -11,7 +11,7 @@ use borrow.Author.Tests.{leb-true, le-leb, lt-leb}
 use lib.Dec.{leb, ltb, eqb}
 use lib.ListN.{length, get_or, set, take, drop, drop_of_length-le, length-set}
 use lib.Seq.{drop-cons, take-suc-set}
-use Rattle.helpers.specs.Answers.{if◌then◌else◌}
+use Rattle.std.specs.Prelude.{if◌then◌else◌}
 use Rattle.helpers.proofs.Ahead.{ahead, ahead_one, ahead_stays, ahead_all}
 use Rattle.helpers.proofs.Answering.{and_true}
 use Rattle.line.specs.Line.{Kind, hex, blank, neither, kind_of, Effect, goes_on, point_ends, misplaced, effect, Content, code_points, other_form, with_point, comes_of, content_from, line_limit, content_of}

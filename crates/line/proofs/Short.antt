@@ -8,7 +8,8 @@ use native.Mathlib.Omega.{arith}
 use borrow.Author.Tests.{leb-true, le-leb}
 use lib.Dec.{leb, ltb}
 use lib.ListN.{length, length-append, length-map}
-use Rattle.helpers.specs.Answers.{if◌then◌else◌, Answer, refuse, accept}
+use Rattle.std.specs.Prelude.{if◌then◌else◌}
+use Rattle.helpers.specs.Answers.{Answer, refuse, accept}
 use Rattle.paper.specs.Jobs.{encode, row_length, most}
 use Rattle.line.specs.Line.{Kind, hex, blank, neither, kind_of, goes_on, misplaced, effect, Content, code_points, other_form, with_point, comes_of, content_from, line_limit, content_of, decimal, answer_line, content_line, line_out}
 use Rattle.line.proofs.Bounds.{Low, encode_low}

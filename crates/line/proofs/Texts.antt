@@ -11,7 +11,7 @@ use borrow.Author.Tests.{leb-true, leb-false, le-leb, lt-leb}
 use lib.Dec.{leb}
 use lib.ListN.{length, get_or, set, drop, length-append}
 use lib.Seq.{sets}
-use Rattle.helpers.specs.Answers.{if◌then◌else◌}
+use Rattle.std.specs.Prelude.{if◌then◌else◌}
 use Rattle.helpers.proofs.Gives.{stored_one, stored_then}
 use Rattle.helpers.proofs.Writes.{sets_front}
 use Rattle.line.specs.Line.{decimal}

@@ -1,6 +1,7 @@
 -- How the code's types of src/form.rt are read as those of Line.antt. Nobody audits this.
 -- Assumes nothing.
-use Rattle.helpers.specs.Prelude.{ℕ, ◌≤◌, ◌≡◌, List, length, take}
+use Rattle.std.specs.Prelude.{◌≤◌, ◌≡◌}
+use Rattle.helpers.specs.Prelude.{ℕ, List, length, take}
 use Rattle.line.specs.Line as Paper
 use Rattle.line.specs.Line.{hex, blank, neither, goes_on, point_ends, misplaced, code_points, other_form}
 use Rattle.line.specs.declared.form.Kind.{Kind}

@@ -1,8 +1,9 @@
 -- One line of the label program: the code points that its bytes are, and the line that it gives,
 -- byte by byte.
 -- Document 01, "The label program". Assumes nothing.
-use Rattle.helpers.specs.Prelude.{ℕ, zero, suc, ◌+◌, ◌-◌, ◌*◌, ◌/◌, ◌%◌, ◌≡◌, ◌&&◌, List, [], ◌∷◌, ◌++◌, map, leb, ltb, eqb, length, drop}
-use Rattle.helpers.specs.Answers.{if◌then◌else◌, Answer, refuse, accept}
+use Rattle.std.specs.Prelude.{◌+◌, ◌-◌, ◌*◌, ◌/◌, ◌%◌, ◌≡◌, ◌&&◌, ◌∷◌, ◌++◌, if◌then◌else◌}
+use Rattle.helpers.specs.Prelude.{ℕ, zero, suc, List, [], map, leb, ltb, eqb, length, drop}
+use Rattle.helpers.specs.Answers.{Answer, refuse, accept}
 use Rattle.paper.specs.Jobs.{encode, row_length, most}
 
 -- ---- from a line's bytes to its code points

@@ -1,5 +1,7 @@
 // One line of the label program, on slices: the bytes of the line in, the bytes of the line that
 // it gives out.
+#![tactic(auto)]
+
 ghost use Rattle.line.specs.Line.{line_out, Wrote};
 
 mod form;

@@ -6,7 +6,7 @@ use mathlib.Core.Bool.{Bool, true, false}
 use mathlib.Core.List.{List, [], ◌∷◌, ◌++◌, map, append-nil, append_assoc}
 use native.Mathlib.Omega.{arith}
 use lib.Dec.{eqb}
-use Rattle.helpers.specs.Answers.{if◌then◌else◌}
+use Rattle.std.specs.Prelude.{if◌then◌else◌}
 use Rattle.line.specs.Line.{content_of, content_line, line_out}
 use Rattle.lines.specs.Lines.{at_end, output_from, output, output_cut, newlines, first_lines, after_lines}
 use Rattle.lines.specs.Run.{joined, last_of}

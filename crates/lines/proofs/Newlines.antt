@@ -10,7 +10,8 @@ use borrow.Author.Tests.{eq-eqb, ne_eqb}
 use lib.Dec.{ltb, eqb}
 use lib.ListN.{length, get_or, drop, drop_of_length-le}
 use lib.Seq.{drop-cons}
-use Rattle.helpers.specs.Answers.{if◌then◌else◌, Answer, refuse, accept}
+use Rattle.std.specs.Prelude.{if◌then◌else◌}
+use Rattle.helpers.specs.Answers.{Answer, refuse, accept}
 use Rattle.paper.specs.Jobs.{encode, row_length, most}
 use Rattle.line.specs.Line.{Content, code_points, other_form, content_of, decimal_below, decimal, answer_line, content_line, line_out}
 use Rattle.lines.specs.Lines.{newlines}

@@ -54,6 +54,8 @@ run {e} w cur h u l (reads_on {chunk} {out} {chunk'} {used} {chunks} d r) =
     run w cur h u l r ∙ ap (λ (x : List ℕ). take used out ++ x) (sym (ended (last_of e) chunk cur (chunk' ++ joined chunks) d))
 run w cur h u l (calls_finish {chunk} {out} f out' d g) = finishes f cur out out' l (g cur h) ∙ sym (ended (last_of ends) chunk cur [] d)
 run w cur h u l (cannot_read {chunk} d) = sym (ended (last_of fails) chunk cur [] d)
+run w cur h u l (cannot_write sent _) = elim w [ ]
+run w cur h u l (cannot_write_last f _ sent _ _ _) = elim w [ ]
 
 -- from the input's start
 pub run_whole : {e : End} → Whole e → {line out all : List ℕ} {chunks : List (List ℕ)} → length line ≡ 4097 → 22560 ≤ length out → Run e [] 0 line 0 out 0 chunks all

@@ -1,8 +1,8 @@
 -- What `feed` and `finish` give: steps over an input that comes in chunks, with a buffer for the
 -- line and one for the output.
 -- Document 01, "The label program". Assumes nothing.
-use Rattle.helpers.specs.Prelude.{ℕ, ◌+◌, ◌-◌, ◌<◌, ◌≤◌, ◌≡◌, ◌≢◌, ◌⊎◌, List, [], ◌++◌, length, get_or, take, drop}
-use Rattle.std.specs.Prelude.{min}
+use Rattle.helpers.specs.Prelude.{ℕ, List, [], length, get_or, take, drop}
+use Rattle.std.specs.Prelude.{min, ◌+◌, ◌-◌, ◌<◌, ◌≤◌, ◌≡◌, ◌≢◌, ◌⊎◌, ◌++◌}
 use Rattle.helpers.specs.Terms.{Stored}
 use Rattle.line.specs.Line.{line_out}
 use Rattle.lines.specs.Lines.{output_from, newlines}

@@ -1,6 +1,7 @@
 -- What holds of the label program's output for every input: what operations rely on.
 -- Document 01, "The label program". Assumes nothing.
-use Rattle.helpers.specs.Prelude.{ℕ, suc, ◌≤◌, ◌≡◌, List, [], ◌∷◌, ◌++◌, map, length}
+use Rattle.std.specs.Prelude.{◌≤◌, ◌≡◌, ◌∷◌, ◌++◌}
+use Rattle.helpers.specs.Prelude.{ℕ, suc, List, [], map, length}
 use Rattle.line.specs.Line.{line_out}
 use Rattle.lines.specs.Lines.{output, output_cut, newlines, first_lines, after_lines}
 use Rattle.lines.specs.Run.{joined, ends, fails, stops, Run}

@@ -1,7 +1,7 @@
 -- The label program on its whole input: how it falls into lines, and what is written for them.
 -- Document 01, "The label program". Assumes nothing.
-use Rattle.helpers.specs.Prelude.{ℕ, zero, suc, true, false, List, [], ◌∷◌, ◌++◌, eqb}
-use Rattle.helpers.specs.Answers.{if◌then◌else◌}
+use Rattle.std.specs.Prelude.{◌∷◌, ◌++◌, if◌then◌else◌}
+use Rattle.helpers.specs.Prelude.{ℕ, zero, suc, true, false, List, [], eqb}
 use Rattle.line.specs.Line.{line_out}
 
 -- "A last line without newline counts": what the bytes after the last newline give

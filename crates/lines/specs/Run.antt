@@ -1,6 +1,7 @@
 -- A run of the label program over an input that comes in chunks.
 -- Document 01, "The label program". Assumes nothing.
-use Rattle.helpers.specs.Prelude.{ℕ, ◌≤◌, List, [], ◌∷◌, ◌++◌, length, take}
+use Rattle.std.specs.Prelude.{◌≤◌, ◌∷◌, ◌++◌}
+use Rattle.helpers.specs.Prelude.{ℕ, List, [], length, take}
 use Rattle.lines.specs.Lines.{at_end}
 use Rattle.lines.specs.Given.{Holds, Feeds, Finishes, bytes_of}
 use Rattle.lines.specs.declared.Finished.{Finished}

@@ -1,5 +1,7 @@
 // The label program's work on slices: the lines of an input that comes in chunks, one line out
 // for each.
+#![tactic(auto)]
+
 ghost use Rattle.std.specs.Prelude.{ℕ, ◌≤◌, ◌≡◌, List, length};
 ghost use Rattle.lines.specs.Lines.{newlines};
 ghost use Rattle.lines.specs.Given.{Holds, Feeds, Finishes, bytes_of};

@@ -3,11 +3,13 @@
 // `Character`, the crate's errors, or the row's cells and then the numbers of its symbols and of
 // its check; for a ź that the crate takes, refusal 19 as the label program gives it. rust/answers
 // makes the list by running the crate.
+#![tactic(auto)]
+
 ghost use Rattle.std.specs.Prelude.{◌≤◌, length};
 
 use helpers::Answer;
-use libc::{STDIN_FILENO, STDOUT_FILENO};
 use lines::{Finished, LINE};
+use std::io::Read;
 
 // Between two reads: how much of the line's buffer is filled, and whether to read on.
 #[derive(Drop)]
@@ -37,46 +39,46 @@ fn cells(digits: &[u8], row: &mut [u8]) -> usize
     let n = helpers::shorter(digits.len(), row.len());
     let mut i: usize = 0;
     while i < n {
-        row[i] = std::num::wrapping_sub_u8(digits[i], b'0');
+        row[i] = digits[i].wrapping_sub(b'0');
         i += 1;
     }
     n
 }
 
 // Writes numbers, each with a blank before it.
-fn show_numbers(list: &[u8]) {
+fn show_numbers(rt: &impl Print, list: &[u8]) {
     let mut i: usize = 0;
     while i < list.len() {
-        io::write_all(STDOUT_FILENO, b" ");
-        io::print_decimal(STDOUT_FILENO, helpers::wide(list[i]) as u64);
+        let number = helpers::wide(list[i]) as u64;
+        let _ = print!(rt; " {number}");
         i += 1;
     }
 }
 
 // Writes the symbols that read finds in a row, and their check.
-fn show_symbols(row: &[u8]) {
+fn show_symbols(rt: &impl Print, row: &[u8]) {
     let mut list = [0u8; 4001];
     let answer = reader::read(row, &mut list);
     let Answer::Done(n) = answer else {
-        io::write_all(STDOUT_FILENO, b" not read");
+        let _ = rt.write_all(b" not read");
         return;
     };
     let check = code128::checksum_value(&list[0..n]);
     list[n] = check;
-    show_numbers(&list[0..n + 1]);
+    show_numbers(rt, &list[0..n + 1]);
 }
 
 // Writes a row as the label program gives it, and what it is read as.
-fn show_row(digits: &[u8]) {
-    io::write_all(STDOUT_FILENO, digits);
+fn show_row(rt: &impl Print, digits: &[u8]) {
+    let _ = rt.write_all(digits);
     let mut row = [0u8; 22552];
     let n = cells(digits, &mut row);
-    show_symbols(&row[0..n]);
+    show_symbols(rt, &row[0..n]);
 }
 
 // Writes one line of the label program in the crate's words; an answer that the crate cannot give
 // stays as it is.
-fn show(line: &[u8]) {
+fn show(rt: &impl Print, line: &[u8]) {
     if line.len() < 1 {
         return;
     }
@@ -84,24 +86,24 @@ fn show(line: &[u8]) {
     match line[0] {
         b'0' => {
             let at = after_blank(&line[0..end]);
-            show_row(&line[at..end]);
+            show_row(rt, &line[at..end]);
         }
         b'2' => {
-            io::write_all(STDOUT_FILENO, b"Length");
+            let _ = rt.write_all(b"Length");
         }
         b'3' => {
-            io::write_all(STDOUT_FILENO, b"Character");
+            let _ = rt.write_all(b"Character");
         }
         _ => {
-            io::write_all(STDOUT_FILENO, &line[0..end]);
+            let _ = rt.write_all(&line[0..end]);
         }
     }
-    io::write_all(STDOUT_FILENO, b"\n");
+    let _ = rt.write_all(b"\n");
 }
 
 // Goes over one chunk and returns how much of the line's buffer is filled. The output has room
 // for one answer, so `feed` comes back after each.
-fn pump(chunk: &[u8], line: &mut [u8; LINE], len: usize) -> usize {
+fn pump(rt: &impl Print, chunk: &[u8], line: &mut [u8; LINE], len: usize) -> usize {
     let mut out = [0u8; lines::ANSWER];
     let mut at: usize = 0;
     let mut n = len;
@@ -110,29 +112,37 @@ fn pump(chunk: &[u8], line: &mut [u8; LINE], len: usize) -> usize {
         at = fed.at;
         n = fed.len;
         let used = fed.used;
-        show(&out[0..used]);
+        show(rt, &out[0..used]);
     }
     n
 }
 
 // Reads once and goes over what came. A read that fails ends the input.
-fn turn(chunk: &mut [u8], line: &mut [u8; LINE], len: usize) -> State {
-    let got = libc::read(STDIN_FILENO, chunk);
-    let n = io::count(got, chunk);
+fn turn(
+    rt: &impl Print,
+    input: &mut impl Read,
+    chunk: &mut [u8],
+    line: &mut [u8; LINE],
+    len: usize,
+) -> State {
+    let n = match input.read(chunk) {
+        Ok(n) => n,
+        Err(_) => 0,
+    };
     if n < 1 {
         return State { len, more: false };
     }
-    let len = pump(&chunk[0..n], line, len);
+    let len = pump(rt, &chunk[0..n], line, len);
     State { len, more: true }
 }
 
 // Reads to the input's end; counts its turns down, from a number that no run uses up, since a
 // proved loop has to end.
-fn drain(chunk: &mut [u8], line: &mut [u8; LINE]) -> usize {
+fn drain(rt: &impl Print, input: &mut impl Read, chunk: &mut [u8], line: &mut [u8; LINE]) -> usize {
     let mut len: usize = 0;
     let mut turns = u64::MAX;
     while turns > 0 {
-        let state = turn(chunk, line, len);
+        let state = turn(rt, input, chunk, line, len);
         len = state.len;
         if !state.more {
             return len;
@@ -143,14 +153,15 @@ fn drain(chunk: &mut [u8], line: &mut [u8; LINE]) -> usize {
 }
 
 // Replays all lines, a last one without newline too.
-fn main() {
+#[tactic(auto, unfolding(lines::specs::Given::bytes_of))]
+fn main(rt: HostRuntime) {
     let mut chunk = [0u8; 65536];
     let mut line = [0u8; LINE];
-    let len = drain(&mut chunk, &mut line);
+    let len = drain(&rt, &mut rt.stdin(), &mut chunk, &mut line);
     let mut out = [0u8; lines::ANSWER];
     // No last line; there is room for every answer.
     let Finished::Line(n) = lines::finish(&line, len, &mut out) else {
         return;
     };
-    show(&out[0..n]);
+    show(&rt, &out[0..n]);
 }
