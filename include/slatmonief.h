@@ -3,7 +3,8 @@
  * says "tested". What is plain C here, the names of the refusals, slatmonief_words and
  * SLATMONIEF_CELLS, is tested.
  *
- * Link with libslatmonief.a (x86-64 Linux). C99 and later, and C++.
+ * Link with libslatmonief.a (x86-64 Linux; the processor has to have SSE4.2, as x86-64-v2 says). C99
+ * and later, and C++.
  *
  * Words. A cell is a byte, 1 for bar and 0 for space. Places count from 0.
  *   - Code 128: a symbol list is a START number (103, 104 or 105) and then data numbers 0 to 102,

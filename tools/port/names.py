@@ -1,7 +1,7 @@
 #!/usr/bin/env python3
 """Spells the repository's own names in specs/ and proofs/ as today's Rattle does: words in snake case.
 
-Usage: tools/port/names.py          once, at the top, after /opt/rattle/port/port.py
+Usage: tools/port/names.py          once, at the top, after the kit's port.py
        tools/port/names.py --list   writes the old and new names and changes nothing
 
 Definitions, lemmas, fields of records and constructors that were in camel case or had hyphens get

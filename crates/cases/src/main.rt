@@ -33,8 +33,8 @@ fn digit(b: u8) -> u32
     }
 }
 
-// A number as wide as all numbers are printed. A cast of an element asks each time whether it fits; of a
-// parameter it does not.
+// A number as wide as all numbers are printed. A cast of an element asks each time whether it fits;
+// of a parameter it does not.
 fn long(x: u32) -> u64 {
     x as u64
 }

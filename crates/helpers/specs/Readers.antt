@@ -10,9 +10,9 @@ unfoldable pub gives : Answer → List ℕ → Bool
 gives (refuse k m) out = false
 gives (accept n o) out = same o out
 
--- The reader of a writer's rows, where `text_of row` is what is read from the row, if it is one: its
--- full text. 33 where the writer, lent as many elements as the row has, does not write the row for
--- that text, and 5.
+-- The reader of a writer's rows, where `text_of row` is what is read from the row, if it is one:
+-- its full text. 33 where the writer, lent as many elements as the row has, does not write the row
+-- for that text, and 5.
 unfoldable pub read_back : (ℕ → List ℕ → Answer) → (List ℕ → List ℕ) → ℕ → List ℕ → Answer
 read_back write text_of room row =
     into room (

@@ -4,7 +4,7 @@ ghost use Rattle.line.specs.Line.{kind_of, effect, content_of};
 ghost use Rattle.line.specs.Form.{as_kind, as_effect, Formed};
 
 // What a byte is in a line: an upper-case hex digit, the blank between two numbers, or neither.
-#[derive(Drop)]
+#[derive(Clone, Copy)]
 enum Kind {
     Hex(u8),
     Blank,
@@ -12,7 +12,7 @@ enum Kind {
 }
 
 // What the next byte does to a number: it goes on with it, ends it, or may not stand there.
-#[derive(Drop)]
+#[derive(Clone, Copy)]
 enum Effect {
     GoesOn(u8, u32),
     PointEnds,
@@ -20,7 +20,7 @@ enum Effect {
 }
 
 // How many code points a line has, or a line of another form.
-#[derive(Drop)]
+#[derive(Clone, Copy)]
 pub enum Form {
     Points(usize),
     Other,

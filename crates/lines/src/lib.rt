@@ -19,7 +19,7 @@ pub const ANSWER: usize = 22560;
 
 // Where the work on a chunk stands: the place in it, how much of the line's buffer is filled, and
 // how much of the output; and how many answers are new in that.
-#[derive(Drop)]
+#[derive(Clone, Copy)]
 pub struct Stand {
     pub at: usize,
     pub len: usize,
@@ -29,7 +29,7 @@ pub struct Stand {
 
 // What the input's end gives: no line, an answer for which there is no room, or how many bytes the
 // answer has.
-#[derive(Drop)]
+#[derive(Clone, Copy)]
 pub enum Finished {
     NoLine,
     NoRoom,

@@ -5,7 +5,7 @@ ghost use Rattle.lines.specs.Given.{Holds, Fed};
 use crate::LINE;
 
 // A place of a chunk, and how much of the line's buffer is filled there.
-#[derive(Drop)]
+#[derive(Clone, Copy)]
 pub struct Place {
     pub at: usize,
     pub len: usize,

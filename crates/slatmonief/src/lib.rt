@@ -13,7 +13,7 @@ use helpers::Answer;
 // The documents' two numbers: 0 and the number of an acceptance, or a refusal's number and its
 // second number.
 #[repr(C)]
-#[derive(Drop)]
+#[derive(Clone, Copy)]
 pub struct Numbers {
     pub number: u32,
     pub second: usize,

@@ -26,7 +26,7 @@ pub enum CharacterSet {
 
 // What a code point is in a set: a symbol's number; FNC2, which is retired and whose number is 97;
 // or nothing.
-#[derive(Drop)]
+#[derive(Clone, Copy)]
 pub enum Lookup {
     Unit(u8),
     Retired,

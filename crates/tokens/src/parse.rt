@@ -18,7 +18,7 @@ enum State {
 
 // What one code point does: parsing stops at it, it is held, or a symbol is written and leaves a
 // state. ź is set apart: its symbol is FNC2, which leaves the state as it is.
-#[derive(Drop)]
+#[derive(Clone, Copy)]
 enum Token {
     Halt,
     Hold(u8),
@@ -27,7 +27,7 @@ enum Token {
 }
 
 // The place where parsing stops; else the place of the first ź, or the number of symbols.
-#[derive(Drop)]
+#[derive(Clone, Copy)]
 pub enum Parsed {
     Stops(usize),
     Retired(usize),
