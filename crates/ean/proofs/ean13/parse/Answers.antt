@@ -12,6 +12,8 @@ returns-in-12 c = parsed_part _ 12 c.in-12.is (omega arith) (omega arith) c.digi
 pub returns-in-13 : goal.returns-in-13
 returns-in-13 c = parsed_part _ 13 c.in-13.is (omega arith) (omega arith) c.digits_only-in-13.ensures
 
+-- Of any other length nothing is asked but the length itself:
+-- 30 is the first test, and is answered whatever the bytes are.
 pub returns-in_default : goal.returns-in_default
 unfolding answers refusal_number
 returns-in_default c = parsed_size _ (λ low high. omega arith)

@@ -28,6 +28,9 @@ pub returns-then-not-is_checked : goal.returns-then-not-is_checked
 unfolding refusal_number
 returns-then-not-is_checked c = refused Row 0 (read_unchecked _ _ (ap checked (sym c.read_digits.ensures) ∙ sym c.is_checked.ensures ∙ c.if-not-is_checked.true))
 
+-- 5 is the last test: it is asked of a row alone, so the guards, the
+-- digits and their check are known here,
+-- and the room is what is left.
 pub returns-then-text-lt13 : goal.returns-then-text-lt13
 unfolding refusal_number
 returns-then-text-lt13 c = refused Room 13 (read_short _ _ (sym c.has_guards.ensures ∙ c.if-not-has_guards.false) (ap checked (sym c.read_digits.ensures) ∙ sym c.is_checked.ensures ∙ c.if-not-is_checked.false) (omega arith))
