@@ -10,74 +10,46 @@
 // buffer is lent full of 77.
 #![tactic(auto)]
 
-ghost use Rattle.std.specs.Prelude.{◌<◌, ◌≤◌, ◌+◌, length};
+ghost use Rattle.std.specs.Prelude.{◌<◌, ◌≤◌, length, IfSome};
 
 use helpers::Answer;
 use std::io::Read;
 
-// A number that was read, and the place after it and the blank that follows.
-#[derive(Drop)]
-struct Number {
-    value: u32,
-    next: usize,
-}
-
-// The value of an upper-case hex digit, or 16 for any other byte.
-fn digit(b: u8) -> u32
-    ensures { result < 17 }
+// The value of an upper-case hex digit.
+// Stays: the library's `to_digit(16)` takes a to f too.
+fn digit(b: u8) -> Option<u32>
+    ensures { IfSome result (λ d. d < 16) }
 {
     match b {
-        b'0'..=b'9' => (b - b'0') as u32,
-        b'A'..=b'F' => (b - b'A' + 10) as u32,
-        _ => 16,
+        b'0'..=b'9' => Some(u32::from(b - b'0')),
+        b'A'..=b'F' => Some(u32::from(b - b'A' + 10)),
+        _ => None,
     }
 }
 
-// A number as wide as all numbers are printed. A cast of an element asks each time whether it fits;
-// of a parameter it does not.
-fn long(x: u32) -> u64 {
-    x as u64
-}
-
-// A number to count with, for the same reason.
-fn size(x: u32) -> usize {
-    x as usize
-}
-
-// The number in `line` from `at` on, up to the first byte that is no digit; its last seven digits
-// count.
-fn word(line: &[u8], at: usize) -> Number
-    requires { at ≤ length line.now }
-    ensures { (at < result.next) × (result.next ≤ length line.now + 1) }
-{
-    let mut value: u32 = 0;
-    let mut i = at;
-    while i < line.len() {
-        let d = digit(line[i]);
-        if 15 < d {
-            let next = i + 1;
-            return Number { value, next };
+// The number of a word of hex digits and the byte that ends it; its last seven digits count.
+fn number(word: &[u8]) -> u32 {
+    let mut value = 0;
+    for b in word {
+        if let Some(d) = digit(*b) {
+            value = value % 0x1000000 * 16 + d;
         }
-        value = value % 0x1000000 * 16 + d;
-        i += 1;
     }
-    let next = i + 1;
-    Number { value, next }
+    value
 }
 
-// The numbers of `line` from place `from` on, as far as `values` reaches; returns how many.
-fn words(line: &[u8], from: usize, values: &mut [u32]) -> usize
+// The numbers of a line, as far as `values` reaches; returns how many. Any byte that is no digit
+// ends a number.
+fn words(line: &[u8], values: &mut [u32]) -> usize
     ensures { result ≤ length values.old }
 {
-    let mut at = from;
-    let mut n: usize = 0;
-    while n < values.len() {
-        if line.len() <= at {
-            return n;
-        }
-        let w = word(line, at);
-        values[n] = w.value;
-        at = w.next;
+    let mut n = 0;
+    // Stays: `n` is given back, and how many words there are is not known before.
+    for word in line.split_inclusive(|b| digit(*b).is_none()) {
+        let Some(value) = values.get_mut(n) else {
+            break;
+        };
+        *value = number(word);
         n += 1;
     }
     n
@@ -87,17 +59,15 @@ fn words(line: &[u8], from: usize, values: &mut [u32]) -> usize
 fn narrow(values: &[u32], bytes: &mut [u8]) -> usize
     ensures { result ≤ length bytes.old }
 {
-    let n = helpers::shorter(values.len(), bytes.len());
-    let mut i: usize = 0;
-    while i < n {
-        bytes[i] = (values[i] % 256) as u8;
-        i += 1;
+    for (byte, value) in bytes.iter_mut().zip(values) {
+        *byte = (*value % 256) as u8;
     }
-    n
+    values.len().min(bytes.len())
 }
 
 // What the job of a letter answers, given code points or bytes: every job but spell, whose buffer
 // is of code points.
+// Stays: the letter is input, and each job is called by its name.
 fn ask(letter: u8, text: &[u32], bytes: &[u8], out: &mut [u8]) -> Answer {
     match letter {
         b'D' => code128::draw(bytes, out),
@@ -112,60 +82,49 @@ fn ask(letter: u8, text: &[u32], bytes: &[u8], out: &mut [u8]) -> Answer {
 }
 
 // Writes an answer's two numbers.
-fn show_numbers(rt: &impl Print, a: Answer) {
-    let number = long(a.number());
-    let second = a.second() as u64;
-    let _ = print!(rt; "{number} {second}");
+fn show_numbers(rt: &impl Print, answer: Answer) {
+    let _ = print!(rt;
+        "{} {}",
+        helpers::number_of(answer),
+        helpers::second_of(answer)
+    );
 }
 
 // Writes every byte of a buffer, so that one written past the output is seen.
 fn show_bytes(rt: &impl Print, out: &[u8]) {
-    let _ = rt.write_all(b" ");
-    let mut i: usize = 0;
-    while i < out.len() {
-        let byte = helpers::wide(out[i]) as u64;
+    let _ = print!(rt; " ");
+    for byte in out {
         let _ = print!(rt; "{byte:02x}");
-        i += 1;
     }
-    let _ = rt.write_all(b"\n");
+    let _ = println!(rt);
 }
 
 // The same of a buffer of code points, each with a blank before it.
+// Stays: it has a format of its own, which has to stand in the macro.
 fn show_letters(rt: &impl Print, out: &[u32]) {
-    let mut i: usize = 0;
-    while i < out.len() {
-        let letter = long(out[i]);
+    for letter in out {
         let _ = print!(rt; " {letter:x}");
-        i += 1;
     }
-    let _ = rt.write_all(b"\n");
+    let _ = println!(rt);
 }
 
-// Runs spell, whose buffer is of code points, and shows what it did.
-fn run_spell(rt: &impl Print, bytes: &[u8], out: &mut [u32]) {
-    show_numbers(rt, speller::spell(bytes, out));
-    show_letters(rt, out);
-}
-
-// Runs any other job, and shows what it did.
-fn run_other(rt: &impl Print, letter: u8, text: &[u32], bytes: &[u8], out: &mut [u8]) {
-    show_numbers(rt, ask(letter, text, bytes, out));
-    show_bytes(rt, out);
-}
-
-// Runs the job of a letter, lent a buffer of `room` elements that are all 77.
+// Runs the job of a letter, lent a buffer of `room` elements that are all 77, and shows what it
+// did.
+// Stays: two branches, since the buffer of spell is of code points.
 fn run(rt: &impl Print, letter: u8, room: usize, input: &[u32])
     requires { room ≤ 3072 }
 {
-    let mut bytes = [0u8; 3072];
+    let mut bytes = [0; 3072];
     let n = narrow(input, &mut bytes);
     if letter == b'S' {
-        let mut letters = [0x77u32; 3072];
-        run_spell(rt, &bytes[0..n], &mut letters[0..room]);
-        return;
+        let mut letters = [0x77; 3072];
+        show_numbers(rt, speller::spell(&bytes[..n], &mut letters[..room]));
+        show_letters(rt, &letters[..room]);
+    } else {
+        let mut out = [0x77; 3072];
+        show_numbers(rt, ask(letter, input, &bytes[..n], &mut out[..room]));
+        show_bytes(rt, &out[..room]);
     }
-    let mut out = [0x77u8; 3072];
-    run_other(rt, letter, input, &bytes[0..n], &mut out[0..room]);
 }
 
 // Runs the call of one line: the job's letter, the buffer's length, the input.
@@ -173,37 +132,10 @@ fn line(rt: &impl Print, text: &[u8]) {
     if text.len() < 3 {
         return;
     }
-    let mut values = [0u32; 3072];
-    let n = words(text, 2, &mut values);
-    if n < 1 {
-        return;
-    }
-    let room = helpers::shorter(size(values[0]), 3072);
-    run(rt, text[0], room, &values[1..n]);
-}
-
-// The place of the next newline from `at` on, or the length.
-fn line_end(input: &[u8], at: usize) -> usize
-    requires { at ≤ length input.now }
-    ensures { (at ≤ result) × (result ≤ length input.now) }
-{
-    let mut i = at;
-    while i < input.len() {
-        if input[i] == b'\n' {
-            return i;
-        }
-        i += 1;
-    }
-    i
-}
-
-// Runs the calls of all lines, one after the other.
-fn lines(rt: &impl Print, input: &[u8]) {
-    let mut at: usize = 0;
-    while at < input.len() {
-        let end = line_end(input, at);
-        line(rt, &input[at..end]);
-        at = end + 1;
+    let mut values = [0; 3072];
+    let n = words(&text[2..], &mut values);
+    if let [room, input @ ..] = &values[..n] {
+        run(rt, text[0], (*room as usize).min(3072), input);
     }
 }
 
@@ -211,15 +143,12 @@ fn lines(rt: &impl Print, input: &[u8]) {
 fn read_full(from: &mut impl Read, input: &mut [u8]) -> usize
     ensures { result ≤ length input.new }
 {
-    let mut done: usize = 0;
+    let mut done = 0;
+    // Stays: a read says how many bytes came, so `done` is no count.
     while done < input.len() {
-        let n = match from.read(&mut input[done..]) {
-            Ok(n) => n,
-            Err(_) => 0,
+        let Ok(n @ 1..) = from.read(&mut input[done..]) else {
+            break;
         };
-        if n < 1 {
-            return done;
-        }
         done += n;
     }
     done
@@ -227,7 +156,9 @@ fn read_full(from: &mut impl Read, input: &mut [u8]) -> usize
 
 // Reads the whole input, which fits 262,144 bytes, and runs its calls.
 fn main(rt: HostRuntime) {
-    let mut input = [0u8; 262144];
+    let mut input = [0; 262144];
     let n = read_full(&mut rt.stdin(), &mut input);
-    lines(&rt, &input[0..n]);
+    for text in input[..n].split(|b| *b == b'\n') {
+        line(&rt, text);
+    }
 }

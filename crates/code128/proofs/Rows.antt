@@ -14,13 +14,8 @@ use Rattle.paper.proofs.Table.{length_pattern}
 use Rattle.paper.proofs.Cells.{Number, cells_append, length_cells, check_small, row_numbers}
 use Rattle.helpers.specs.Terms.{Stored}
 use Rattle.helpers.proofs.Gives.{stored_at, stored_then}
-use Rattle.code128.specs.Quads.{quads_from, quads}
 
 -- ---- the constants
-
-pub length_quads : length quads ≡ 16
-unfolding quads quads_from
-length_quads = refl
 
 -- `STOP` and `TERM`
 abbrev pub stop_cells : List ℕ

@@ -1,13 +1,12 @@
 -- Laws of the weighed sum, and of a loop that makes it.
 -- Assumes nothing.
-use Prim.Native.Nat.{ℕ, ◌+◌, ◌*◌, ◌%◌, ◌<◌, ◌≤◌}
+use Prim.Native.Nat.{ℕ, ◌+◌, ◌*◌, ◌%◌, ◌≤◌}
 use mathlib.Core.Path.{◌≡◌, refl}
 use mathlib.Core.List.{List, [], ◌∷◌}
-use native.Mathlib.Nat.{not-suc-le-zero, mul-le-mul, add-zero}
+use native.Mathlib.Nat.{mul-le-mul, add-zero}
 use native.Mathlib.Numerals.{add-one}
 use native.Mathlib.Omega.{arith}
-use lib.ListN.{length, get_or, drop, drop_of_length-le}
-use lib.Seq.{drop-cons}
+use lib.ListN.{length}
 use Rattle.paper.specs.Iso15417.{weighed, check}
 
 pub check_of_none : (s : List ℕ) → length s ≡ 0 → check s ≡ 0
@@ -15,34 +14,39 @@ unfolding check
 check_of_none [] h = refl
 check_of_none (x ∷ xs) h = absurd (omega arith)
 
+-- A loop that sums the numbers of s by weight: w is the next weight, and `rest` is left to sum.
+pub record Summing (s : List ℕ) (sum w : ℕ) (rest : List ℕ) : Type 0 where
+  pub within : w + length rest ≤ 4000
+  pub fits : sum ≤ 1019745 * w
+  pub left : (sum + weighed w rest) % 103 ≡ check s
+
+pub summing_begin : {s rest : List ℕ} {v : ℕ} → s ≡ v ∷ rest → length s ≤ 4000 → v ≤ 255 → Summing s v 1 rest
+unfolding check
+summing_begin {s} {rest} e h b =
+    let longer : length s ≡ 1 + length rest = rw e (omega arith) in
+    record { within = omega (arith, longer); fits = omega arith; left = rw e refl }
+
 -- the product of a weight and a byte
 pub small : (a b : ℕ) → a ≤ 3999 → b ≤ 255 → a * b ≤ 1019745
 small a b ha hb = mul-le-mul ha hb
 
--- A loop that has summed the places below i.
-pub record Summing (s : List ℕ) (sum i : ℕ) : Type 0 where
-  pub some : 0 < i
-  pub within : i ≤ length s
-  pub fits : sum ≤ 1019745 * i
-  pub left : (sum + weighed i (drop i s)) % 103 ≡ check s
+pub weight_small : {s rest rest' : List ℕ} {sum w v : ℕ} → Summing s sum w rest → rest ≡ v ∷ rest' → w ≤ 3999
+weight_small {rest} {rest'} p e =
+    let some : 1 ≤ length rest = rw e (omega arith) in
+    omega (arith, some, p.within)
 
-pub summing_begin : {s : List ℕ} {v : ℕ} → 0 < length s → v ≡ get_or s 0 0 → v ≤ 255 → Summing s v 1
-unfolding check
-summing_begin {s = []} {v = v} h e b = absurd (not-suc-le-zero h)
-summing_begin {s = x ∷ xs} {v = v} h e b = record { some = omega arith; within = omega arith; fits = omega arith; left = rw e refl }
-
-pub summing_turn : {s : List ℕ} {sum w i v : ℕ} → Summing s sum i → w ≡ i → i < length s → i ≤ 3999 → v ≡ get_or s i 0 → v ≤ 255 → Summing s (sum + w * v) (i + 1)
+pub summing_turn : {s rest rest' : List ℕ} {sum w v : ℕ} → Summing s sum w rest → rest ≡ v ∷ rest' → v ≤ 255 → Summing s (sum + w * v) (w + 1) rest'
 unfolding weighed
-summing_turn {s} {sum} {w} {i} {v} p weight h c e b =
-    let turn : weighed i (drop i s) ≡ i * v + weighed (i + 1) (drop (i + 1) s) = rw (add-one i, e, drop-cons s i 0 h) refl in
-    let same : sum + i * v + weighed (i + 1) (drop (i + 1) s) ≡ sum + weighed i (drop i s) = omega arith in
-    rw weight (record {
-      some = omega arith;
-      within = omega arith;
-      fits = omega (arith, small i v c b);
-      left = rw same p.left;
-    })
+summing_turn {s} {rest} {rest'} {sum} {w} {v} p e b =
+    let fewer : w + length rest ≡ w + 1 + length rest' = rw e (omega arith) in
+    let turn : sum + w * v + weighed (w + 1) rest' ≡ sum + weighed w rest = rw (e, add-one w) (omega arith) in
+    record {
+      within = rw fewer at p.within;
+      fits = omega (arith, small w v (weight_small p e) b, p.fits);
+      left = rw turn p.left;
+    }
 
-pub summing_end : {s : List ℕ} {sum i : ℕ} → Summing s sum i → length s ≤ i → sum % 103 ≡ check s
+pub summing_end : {s rest : List ℕ} {sum w : ℕ} → Summing s sum w rest → length rest ≡ 0 → sum % 103 ≡ check s
 unfolding weighed
-summing_end {s} {sum} {i} p h = rw (drop_of_length-le s h, add-zero sum) at p.left
+summing_end {rest = []} {sum = sum} p h = rw (add-zero sum) at p.left
+summing_end {rest = x ∷ xs} p h = absurd (omega arith)

@@ -1,7 +1,7 @@
 // The table of patterns, and the fours that a row is written by.
 ghost use Rattle.std.specs.Prelude.{◌≡◌};
-ghost use Rattle.code128.specs.Words.{words};
 ghost use Rattle.code128.specs.Quads.{quads};
+ghost use Rattle.code128.specs.Words.{words};
 
 // The patterns of the 106 symbols, each one word of eleven bits, the first cell on top, with its
 // number after it. Rows are written from this table, and read by it.
@@ -114,7 +114,8 @@ pub const WORDS: [u16; 106] = [
     0b11010011100, // 105
 ];
 
-// The words, copied once for a call that reads them often.
+// The words.
+// Stays: its contract says that the code's table is `words`, whose rule is `WordsRule` (request 5).
 pub fn words() -> [u16; 106]
     ensures { result ≡ words }
 {
@@ -142,7 +143,8 @@ pub const QUADS: [u32; 16] = [
     0x01_01_01_01, // 1111
 ];
 
-// The fours, copied once for a call that reads them often.
+// The fours.
+// Stays: public functions stay; the code itself reads QUADS.
 #[tactic(auto, unfolding(crate::specs::Quads::quads_from, crate::specs::Quads::quads))]
 pub fn quads() -> [u32; 16]
     ensures { result ≡ quads }

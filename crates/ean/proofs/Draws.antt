@@ -3,22 +3,22 @@
 use Prim.Native.Nat.{ℕ, ◌+◌, ◌-◌, ◌*◌, ◌<◌, ◌≤◌}
 use mathlib.Core.Path.{◌≡◌, refl, sym, ap, ◌∙◌}
 use mathlib.Core.List.{List, [], ◌∷◌, ◌++◌}
-use native.Mathlib.Numerals.{add-one}
+use mathlib.Core.Logic.{◌⊎◌, inl, inr}
+use Rattle.std.proofs.lemmas.List.{nil_from_length}
 use native.Mathlib.Omega.{arith}
-use lib.ListN.{length, get_or, take, drop, replicate, drop_of_length-le, length-drop}
+use lib.ListN.{length, get_or, take, drop, replicate, length-drop}
 use lib.Seq.{sets, drop-cons, length-take-le}
-use borrow.Rule.Slice.PartMut.{mid_of, put_mid, mid_len}
+use borrow.Rule.Slice.PartMut.{mid_of, put_mid}
 use Rattle.helpers.specs.Answers.{Each, refuse, accept, whole, into}
-use Rattle.helpers.specs.Terms.{answers}
-use Rattle.helpers.specs.declared.Answer as Code
-use Rattle.helpers.specs.declared.Answer.TheVariants.{Done}
-use Rattle.helpers.proofs.Answering.{each_at, each_take, each_drop, into_room, into_short}
-use Rattle.helpers.proofs.Writes.{Writing, writing_begin, writing_block, writing_end}
-use Rattle.helpers.proofs.Gives.{said_done}
+use Rattle.std.specs.Prelude.{Result, Ok}
+use Rattle.helpers.specs.declared.Refusal.{Refusal}
+use Rattle.helpers.proofs.Answering.{each_at, each_take, each_drop, accept_output, into_room, into_short}
+use Rattle.helpers.proofs.Writes.{Writing, writing_block, writing_end}
 use Rattle.helpers.proofs.Part.{part_stored}
 use Rattle.ean.specs.Ean13.{set_c, in_set, parity_row, guard, centre, in_sets, ean13_row, thirteen, write_ean13}
-use Rattle.ean.specs.Terms.{Digit, Side, encodings, tested, Listed}
-use Rattle.ean.proofs.Tables.{table_at, digit_length, parity_length}
+use Rattle.ean.specs.Terms.{Digit, Side, tested, listed}
+use Rattle.ean.specs.declared.ean13.TheConstants.{ENCODINGS, PARITY}
+use Rattle.ean.proofs.Tables.{table_at, digit_length, row_at, parity_length}
 use Rattle.ean.proofs.Rows.{parity_sides, right_sides, drawn_length, row_length}
 use Rattle.ean.proofs.Values.{thirteen_digits, thirteen_length, tested_proper, tested_thirteen, write_on}
 
@@ -31,38 +31,51 @@ in_sets_take [] ds = refl
 in_sets_take (s ∷ ss) [] = refl
 in_sets_take (s ∷ ss) (d ∷ ds) = ap (λ (l : List ℕ). in_set s d ++ l) (in_sets_take ss ds)
 
--- A loop that draws digits in their sets; k are drawn.
-pub record Drawing (sides digits l₀ l : List ℕ) (k : ℕ) : Type 0 where
-  pub within : k ≤ length sides
-  pub writes : Writing l₀ 0 (in_sets sides digits) l (7 * k) (in_sets (drop k sides) (drop k digits))
+-- A loop that draws digits in their sets: k are drawn, and ss and ds are left.
+pub record Drawing (sides digits l₀ l : List ℕ) (k : ℕ) (ss ds : List ℕ) : Type 0 where
+  pub of_sides : Each Side ss
+  pub of_digits : Each Digit ds
+  pub alike : length ss ≡ length ds
+  pub all : k + length ss ≡ length sides
+  pub writes : Writing l₀ 0 (in_sets sides digits) l (7 * k) (in_sets ss ds)
 
-pub drawing_begin : {sides digits l : List ℕ} → Drawing sides digits l l 0
-drawing_begin = record { within = omega arith; writes = writing_begin }
+module _ {sides digits l₀ l ss ds : List ℕ} {k : ℕ} (p : Drawing sides digits l₀ l k ss ds) where
+  module _ {s d : ℕ} {ss' ds' : List ℕ} (e : ss ≡ s ∷ ss') (f : ds ≡ d ∷ ds') where
+    pub next_side : Side s
+    next_side = (rw e at p.of_sides).0
 
-module _ {sides digits l₀ l : List ℕ} {k : ℕ} (p : Drawing sides digits l₀ l k) where
-  pub drawing_turn : (m : List ℕ) → k < length sides → k < length digits → Side (get_or sides k 0) → Digit (get_or digits k 0)
-      → m ≡ sets l (7 * k) (in_set (get_or sides k 0) (get_or digits k 0)) → Drawing sides digits l₀ m (k + 1)
+    pub next_digit : Digit d
+    next_digit = (rw f at p.of_digits).0
+
+    pub next_within : k < length sides
+    next_within = omega (arith, p.all, ap length e)
+
+    pub drawing_turn : {m : List ℕ} → m ≡ sets l (7 * k) (in_set s d) → Drawing sides digits l₀ m (k + 1) ss' ds'
+    unfolding in_sets
+    drawing_turn g =
+        record {
+          of_sides = (rw e at p.of_sides).1;
+          of_digits = (rw f at p.of_digits).1;
+          alike = omega (arith, p.alike, ap length e, ap length f);
+          all = omega (arith, p.all, ap length e);
+          writes = writing_block (in_set s d) p.writes (rw (e, f)) g (omega (arith, digit_length s d next_side next_digit));
+        }
+
+  pub drawing_end : (length ss ≡ 0) ⊎ (length ds ≡ 0) → l ≡ sets l₀ 0 (in_sets sides digits)
   unfolding in_sets
-  drawing_turn m h i side digit f =
-      let s = get_or sides k 0 in
-      let d = get_or digits k 0 in
-      let seven = digit_length s d side digit in
-      record {
-        within = omega arith;
-        writes = writing_block (in_set s d) p.writes (rw (drop-cons sides k 0 h, drop-cons digits k 0 i, add-one k) refl) f (omega (arith, seven));
-      }
-
-  pub drawing_end : length sides ≤ k → l ≡ sets l₀ 0 (in_sets sides digits)
-  unfolding in_sets
-  drawing_end h = writing_end p.writes (rw (drop_of_length-le sides h) refl)
+  drawing_end h = writing_end p.writes (rw (nil_from_length ss (none h)) refl)
+    where
+      none : (length ss ≡ 0) ⊎ (length ds ≡ 0) → length ss ≡ 0
+      none (inl e) = e
+      none (inr e) = omega (arith, p.alike)
 
 -- a digit's cells in the table, stored into their part of seven places
-pub part_digit : {table : List (List (List ℕ))} → table ≡ encodings → (l m : List ℕ) (s d r q a e : ℕ) → s ≡ r → d ≡ q → Side r → Digit q → e ≡ a + 7 → e ≤ length l
-    → m ≡ sets (mid_of a (e - a) l) 0 (get_or (get_or table s []) d []) → put_mid a (e - a) l m ≡ sets l a (in_set r q)
-part_digit {table} t l m s d r q a e f g side digit h k w =
+pub part_digit : (l m : List ℕ) (s d r q a e k : ℕ) → s ≡ r → d ≡ q → Side r → Digit q → e ≡ a + 7 → e ≤ length l → a ≡ 7 * k
+    → m ≡ sets (mid_of a (e - a) l) 0 (get_or (get_or ENCODINGS s []) d []) → put_mid a (e - a) l m ≡ sets l (7 * k) (in_set r q)
+part_digit l m s d r q a e k f g side digit h fits at w =
     let seven = digit_length r q side digit in
-    let cells : get_or (get_or table s []) d [] ≡ in_set r q = rw (t, f, g) (table_at r q side digit) in
-    part_stored l m (in_set r q) a e (omega arith) k (omega (arith, seven)) (w ∙ ap (sets (mid_of a (e - a) l) 0) cells)
+    let cells : get_or (get_or ENCODINGS s []) d [] ≡ in_set r q = rw (f, g) (table_at r q side digit) in
+    rw (← at) (part_stored l m (in_set r q) a e (omega arith) fits (omega (arith, seven)) (w ∙ ap (sets (mid_of a (e - a) l) 0) cells))
 
 -- ---- a row
 
@@ -77,9 +90,6 @@ module _ {ss ds : List ℕ} (p : Six ss ds) where
   pub six_length : length (in_sets ss ds) ≡ 42
   six_length = drawn_length ss ds p.sides p.digits (omega (arith, p.alike)) ∙ omega (arith, p.six)
 
-  pub six_fit : (l : List ℕ) (a e : ℕ) → e ≤ length l → a + 42 ≤ e → 7 * length ss ≤ length (mid_of a (e - a) l)
-  six_fit l a e h k = omega (arith, p.six, mid_len a e l h)
-
 -- the six digits from place n on
 six_from : (ss ds : List ℕ) (n : ℕ) → Each Side ss → length ss ≡ 6 → Each Digit ds → length ds ≡ 13 → n ≤ 7 → Six ss (take 6 (drop n ds))
 six_from ss ds n sides six a long h =
@@ -88,7 +98,7 @@ six_from ss ds n sides six a long h =
 
 -- the cells left of the centre, where the first digit is known, and right of it
 abbrev pub left_of : ℕ → List ℕ → List ℕ
-left_of first ds = in_sets (parity_row first) (take 6 (drop 1 ds))
+left_of first ds = in_sets (get_or PARITY first []) (take 6 (drop 1 ds))
 
 abbrev pub right_of : List ℕ → List ℕ
 right_of ds = in_sets (replicate 6 set_c) (take 6 (drop 7 ds))
@@ -96,7 +106,8 @@ right_of ds = in_sets (replicate 6 set_c) (take 6 (drop 7 ds))
 parts_of : (first : ℕ) (ds : List ℕ) → Digit first → ean13_row (first ∷ ds) ≡ guard ++ left_of first (first ∷ ds) ++ centre ++ right_of (first ∷ ds) ++ guard
 unfolding ean13_row
 parts_of first ds h =
-    let left : left_of first (first ∷ ds) ≡ in_sets (parity_row first) ds = ap (λ (n : ℕ). in_sets (parity_row first) (take n ds)) (sym (parity_length first h)) ∙ in_sets_take (parity_row first) ds in
+    let left : left_of first (first ∷ ds) ≡ in_sets (parity_row first) ds =
+    ap (λ (ss : List ℕ). in_sets ss (take 6 ds)) (row_at first) ∙ ap (λ (n : ℕ). in_sets (parity_row first) (take n ds)) (sym (parity_length first h)) ∙ in_sets_take (parity_row first) ds in
     let right : right_of (first ∷ ds) ≡ in_sets (replicate 6 set_c) (drop 6 ds) = in_sets_take (replicate 6 set_c) (drop 6 ds) in
     rw (left, right)
 
@@ -108,8 +119,8 @@ module _ (ds : List ℕ) (a : Each Digit ds) (long : length ds ≡ 13) where
     pub first_digit : Digit first
     first_digit = rw e (each_at Digit ds 0 0 a (omega arith))
 
-    pub left_six : Six (parity_row first) (take 6 (drop 1 ds))
-    left_six = six_from (parity_row first) ds 1 (parity_sides first first_digit) (parity_length first first_digit) a long (omega arith)
+    pub left_six : Six (get_or PARITY first []) (take 6 (drop 1 ds))
+    left_six = rw (row_at first) (six_from (parity_row first) ds 1 (parity_sides first first_digit) (parity_length first first_digit) a long (omega arith))
 
     -- a row in its five parts
     pub row_parts : ean13_row ds ≡ guard ++ left_of first ds ++ centre ++ right_of ds ++ guard
@@ -127,25 +138,26 @@ module _ (ds : List ℕ) (a : Each Digit ds) (long : length ds ≡ 13) where
 
 -- ---- write, after the tests
 
-module _ {text out : List ℕ} {v : Code.Answer} {n : ℕ} (done : v ≡ Done n) (listed : Listed text (answers v) out) where
-  passed : tested text ≡ accept n []
-  passed = said_done done listed.answered
+module _ (text : List ℕ) {ds : List ℕ} {v : Result (List ℕ) Refusal} (done : v ≡ Ok ds) (said : listed v ≡ tested text) where
+  passed : tested text ≡ accept 13 ds
+  unfolding listed
+  passed = sym said ∙ rw done refl
 
-  is_thirteen : out ≡ thirteen text
-  is_thirteen = listed.digits (tested_thirteen text n passed)
+  is_thirteen : ds ≡ thirteen text
+  is_thirteen = accept_output (sym passed ∙ tested_thirteen text 13 passed)
 
-  pub listed_digits : Each Digit out × (length out ≡ 13)
-  listed_digits = let p = tested_proper text n passed in rw is_thirteen (thirteen_digits text p.digits, thirteen_length text p.least)
+  pub listed_digits : Each Digit ds × (length ds ≡ 13)
+  listed_digits = let p = tested_proper text 13 passed in rw is_thirteen (thirteen_digits text p.digits, thirteen_length text p.least)
 
-  pub listed_length : length (ean13_row out) ≡ 95
-  listed_length = row_size out listed_digits.0 listed_digits.1
+  pub listed_length : length (ean13_row ds) ≡ 95
+  listed_length = row_size ds listed_digits.0 listed_digits.1
 
-  write_row : (room : ℕ) → write_ean13 room text ≡ into room (accept (length (ean13_row out)) (ean13_row out))
+  write_row : (room : ℕ) → write_ean13 room text ≡ into room (accept (length (ean13_row ds)) (ean13_row ds))
   unfolding whole
-  write_row room = write_on text room n passed ∙ ap (λ (ds : List ℕ). into room (whole (ean13_row ds))) (sym is_thirteen)
+  write_row room = write_on text room 13 passed ∙ ap (λ (l : List ℕ). into room (whole (ean13_row l))) (sym is_thirteen)
 
   pub write_short : (room : ℕ) → room < 95 → write_ean13 room text ≡ refuse 5 95
-  write_short room h = write_row room ∙ into_short room _ (ean13_row out) 95 (omega (arith, listed_length)) (sym listed_length)
+  write_short room h = write_row room ∙ into_short room _ (ean13_row ds) 95 (omega (arith, listed_length)) (sym listed_length)
 
-  pub write_done : (room : ℕ) → 95 ≤ room → write_ean13 room text ≡ accept 95 (ean13_row out)
-  write_done room h = write_row room ∙ into_room room _ (ean13_row out) (omega (arith, listed_length)) ∙ ap (λ (k : ℕ). accept k (ean13_row out)) listed_length
+  pub write_done : (room : ℕ) → 95 ≤ room → write_ean13 room text ≡ accept 95 (ean13_row ds)
+  write_done room h = write_row room ∙ into_room room _ (ean13_row ds) (omega (arith, listed_length)) ∙ ap (λ (k : ℕ). accept k (ean13_row ds)) listed_length

@@ -11,11 +11,11 @@ use native.Mathlib.Decide.{dec_lt}
 use lib.Dec.{ltb}
 use lib.ListN.{length, get_or, take, drop, replicate, length-drop, length-map, get_or-replicate, get_or-append}
 use lib.Seq.{drop-cons, get_or-drop, get_or-append-add}
-use borrow.Author.Tests.{eqb-true, eq-eqb, lt-ltb, ltb-true}
+use borrow.Author.Tests.{eqb-true, eq-eqb, ne_eqb, lt-ltb, ltb-true}
 use Rattle.helpers.specs.Answers.{Each, refuse, accept, ◌then◌, ask, whole, into}
 use Rattle.helpers.specs.Modulo10.{modulo10}
 use Rattle.helpers.specs.Readers.{gives, read_back, ReadsBack}
-use Rattle.helpers.proofs.Answering.{and_true, and_false, each_at, into_accept, into_room, into_short}
+use Rattle.helpers.proofs.Answering.{and_true, each_at, into_accept, into_room, into_short}
 use Rattle.helpers.proofs.Readers.{reads_back, gives_accept, accept_gives}
 use Rattle.ean.specs.Ean13.{set_c, in_set, parity_row, ean13_row, values_of, right_check, thirteen, write_ean13, full_text, digit_cells, digits_read, text_of, read_ean13, set_at}
 use Rattle.ean.specs.Terms.{Digit, framed, all_digits, checked}
@@ -122,13 +122,23 @@ thirteen_checked : (ds : List ℕ) → Thirteen ds → checked ds ≡ true
 unfolding checked
 thirteen_checked ds p = rw (each_all ds p.digits, eq-eqb _ _ p.right) refl
 
--- a row with the length and the guards has the length
-pub framed_length : (row : List ℕ) → framed row ≡ true → length row ≡ 95
+-- a row of another length is refused
+pub framed_other : (row : List ℕ) → (length row ≡ 95 → ⊥) → framed row ≡ false
 unfolding framed
-framed_length row e = eqb-true (length row) 95 (and_true _ _ (and_true _ _ (and_true _ _ e).0).0).0
+framed_other row h = rw (ne_eqb _ _ h) refl
+
+-- digits, of which the last is held against the check
+module _ (ds : List ℕ) {n : ℕ} (all : all_digits ds ≡ true) (e : n ≡ modulo10 true (take 12 ds)) where
+  pub check_other : (get_or ds 12 0 ≡ n → ⊥) → checked ds ≡ false
+  unfolding checked
+  check_other h = rw (all, ne_eqb _ _ (λ q. h (q ∙ sym e))) refl
+
+  pub check_same : get_or ds 12 0 ≡ n → checked ds ≡ true
+  unfolding checked
+  check_same h = rw (all, eq-eqb _ _ (h ∙ e)) refl
 
 -- two tests that pass together are one
-one_truth : (a b : Bool) → (a ≡ true → b ≡ true) → (b ≡ true → a ≡ true) → a ≡ b
+pub one_truth : (a b : Bool) → (a ≡ true → b ≡ true) → (b ≡ true → a ≡ true) → a ≡ b
 one_truth true b f g = sym (f refl)
 one_truth false true f g = g refl
 one_truth false false f g = refl
@@ -178,18 +188,17 @@ module _ (row : List ℕ) where
 
   -- ---- its answers
 
-  pub read_unframed : (room : ℕ) → framed row ≡ false → read_ean13 room row ≡ refuse 33 0
+  pub read_refused : (room : ℕ) → (framed row && checked ds) ≡ false → read_ean13 room row ≡ refuse 33 0
   unfolding ask ◌then◌ into
-  read_unframed room e = read_by room ∙ rw e refl
+  read_refused room e = read_by room ∙ rw e refl
 
-  pub read_unchecked : (room : ℕ) → checked ds ≡ false → read_ean13 room row ≡ refuse 33 0
-  unfolding ask ◌then◌ into
-  read_unchecked room e = read_by room ∙ rw (e, and_false (framed row)) refl
+  pub checked_digits : (framed row && checked ds) ≡ true → Each Digit ds
+  checked_digits e = (checked_thirteen ds (read_length row) (and_true (framed row) (checked ds) e).1).digits
 
-  module _ (room : ℕ) (e : framed row ≡ true) (f : checked ds ≡ true) where
+  module _ (room : ℕ) (e : (framed row && checked ds) ≡ true) where
     passed : read_ean13 room row ≡ into room (accept 13 (written ds))
     unfolding ask ◌then◌ whole
-    passed = read_by room ∙ rw (e, f) (ap (λ (n : ℕ). into room (accept n (written ds))) (length-map ds (λ d. d + 48) ∙ read_length row))
+    passed = read_by room ∙ rw e (ap (λ (n : ℕ). into room (accept n (written ds))) (length-map ds (λ d. d + 48) ∙ read_length row))
 
     pub read_short : room < 13 → read_ean13 room row ≡ refuse 5 13
     read_short h =

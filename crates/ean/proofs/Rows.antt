@@ -17,8 +17,8 @@ use Rattle.helpers.specs.Answers.{same, Each}
 use Rattle.helpers.proofs.Answering.{and_true, each_at, each_map, each_drop}
 use Rattle.helpers.proofs.Same.{same_true}
 use Rattle.ean.specs.Ean13.{set_a, set_b, set_c, in_set, parity_row, guard, centre, in_sets, ean13_row, digit_place, digit_cells, first_of, digit_in, left_set, list_of, digits_read}
-use Rattle.ean.specs.Terms.{Digit, Side, framed}
-use Rattle.ean.proofs.Lists.{list_length, list_at, list_is, left_sets, left_digits, right_digits, left_digits_length, right_digits_length}
+use Rattle.ean.specs.Terms.{Digit, Side, sets_left, digits_left, digits_right, framed}
+use Rattle.ean.proofs.Lists.{list_length, list_at, list_is, digits_left_length, digits_right_length}
 use Rattle.ean.proofs.Tables.{first_hit, digit_rule, digit_found, left_set_lem, parity_length, parity_sets, parity_found}
 
 -- ---- digits drawn one after the other
@@ -217,13 +217,13 @@ module _ (row : List ℕ) where
       (cut 45 5 ∙ ap (λ (x : List ℕ). take 5 (drop 45 row) ++ x) (cut 50 42 ∙ ap (λ (x : List ℕ). take 42 (drop 50 row) ++ x) last)))
 
   abbrev first : ℕ
-  first = first_of parity_row 10 0 (left_sets row)
+  first = first_of parity_row 10 0 (sets_left row)
 
-  module _ (h : first < 10) (a : Each Digit (left_digits row ++ right_digits row)) where
+  module _ (h : first < 10) (a : Each Digit (digits_left row ++ digits_right row)) where
     left_block : (i : ℕ) → i < 6 → in_set (left_set (digit_cells (0 + i) row)) (digit_in (left_set (digit_cells (0 + i) row)) (digit_cells (0 + i) row)) ≡ take 7 (drop (3 + 7 * (0 + i)) row)
     unfolding digit_in digit_cells digit_place
     left_block i l =
-        let found = each_left Digit (λ k. digit_in (left_set (digit_cells k row)) (digit_cells k row)) 0 6 (right_digits row) a i l in
+        let found = each_left Digit (λ k. digit_in (left_set (digit_cells k row)) (digit_cells k row)) 0 6 (digits_right row) a i l in
         first_hit (in_set (left_set (digit_cells (0 + i) row))) (digit_cells (0 + i) row) 10 0 found
         ∙ ap (λ (n : ℕ). take 7 (drop n row)) (place_left (0 + i) (omega arith))
       where
@@ -233,7 +233,7 @@ module _ (row : List ℕ) where
     each_right : (i : ℕ) → i < 6 → digit_in set_c (digit_cells (6 + i) row) < 10
     each_right i l =
         rw (← list_at (λ k. digit_in set_c (digit_cells k row)) 6 6 i l)
-        (each_at Digit (right_digits row) i 0 (each_rest Digit (left_digits row) (right_digits row) a) (omega (arith, right_digits_length row)))
+        (each_at Digit (digits_right row) i 0 (each_rest Digit (digits_left row) (digits_right row) a) (omega (arith, digits_right_length row)))
       where
         each_rest : (P : ℕ → Type 0) (xs ys : List ℕ) → Each P (xs ++ ys) → Each P ys
         each_rest P [] ys b = b
@@ -248,15 +248,15 @@ module _ (row : List ℕ) where
         place_right : (k : ℕ) → 6 ≤ k → (if ltb k 6 then 3 + 7 * k else 8 + 7 * k) ≡ 8 + 7 * k
         place_right k l = rw (le-ltb k 6 l)
 
-    lefts_drawn : in_sets (parity_row first) (left_digits row ++ right_digits row) ≡ take 42 (drop 3 row)
+    lefts_drawn : in_sets (parity_row first) (digits_left row ++ digits_right row) ≡ take 42 (drop 3 row)
     lefts_drawn =
-        ap (λ (ss : List ℕ). in_sets ss (left_digits row ++ right_digits row)) (first_hit parity_row (left_sets row) 10 0 h)
-        ∙ blocks (λ k. left_set (digit_cells k row)) (λ k. digit_in (left_set (digit_cells k row)) (digit_cells k row)) row 3 0 6 (right_digits row) left_block
+        ap (λ (ss : List ℕ). in_sets ss (digits_left row ++ digits_right row)) (first_hit parity_row (sets_left row) 10 0 h)
+        ∙ blocks (λ k. left_set (digit_cells k row)) (λ k. digit_in (left_set (digit_cells k row)) (digit_cells k row)) row 3 0 6 (digits_right row) left_block
 
-    rights_drawn : in_sets (replicate 6 set_c) (drop 6 (left_digits row ++ right_digits row)) ≡ take 42 (drop 50 row)
+    rights_drawn : in_sets (replicate 6 set_c) (drop 6 (digits_left row ++ digits_right row)) ≡ take 42 (drop 50 row)
     unfolding list_of
     rights_drawn =
-        ap (in_sets (replicate 6 set_c)) (drop_at (left_digits row) (right_digits row) 6 (left_digits_length row) ∙ sym (append-nil (right_digits row)))
+        ap (in_sets (replicate 6 set_c)) (drop_at (digits_left row) (digits_right row) 6 (digits_left_length row) ∙ sym (append-nil (digits_right row)))
         ∙ blocks (λ k. set_c) (λ k. digit_in set_c (digit_cells k row)) row 8 6 6 [] right_block
 
     -- a row with the length and the guards is the row of the digits read, where all are digits
@@ -270,4 +270,4 @@ module _ (row : List ℕ) where
         ∙ ap₂ ◌++◌ (sym (same_true guard (take 3 (drop 0 row)) begun.1))
         (ap₂ ◌++◌ (sym lefts_drawn)
         (ap₂ ◌++◌ (sym (same_true centre (take 5 (drop 45 row)) centred.1)) (ap₂ ◌++◌ (sym rights_drawn) (sym (same_true guard (take 3 (drop 92 row)) ended.1)))))
-        ∙ sym (row_parts first (left_digits row ++ right_digits row))
+        ∙ sym (row_parts first (digits_left row ++ digits_right row))

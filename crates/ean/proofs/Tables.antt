@@ -16,8 +16,8 @@ use Rattle.std.specs.Prelude.{if◌then◌else◌}
 use Rattle.helpers.specs.Answers.{same, Each}
 use Rattle.helpers.proofs.Below.{below, at, and_left, and_right}
 use Rattle.helpers.proofs.Same.{same_true, as_equal, as_least, as_same}
-use Rattle.ean.specs.Ean13.{set_a, set_b, set_c, in_set, parity_row, first_of, digit_in, left_set}
-use Rattle.ean.specs.Terms.{encodings}
+use Rattle.ean.specs.Ean13.{set_a, set_b, set_c, in_set, parity_rows, parity_row, first_of, digit_in, left_set}
+use Rattle.ean.specs.declared.ean13.TheConstants.{ENCODINGS, PARITY}
 use Rattle.ean.specs.Promises.{bars_of, DigitRule}
 use Rattle.ean.proofs.Computes.{ean13_computes}
 
@@ -44,6 +44,12 @@ module _ (f : ℕ → List ℕ) (cs : List ℕ) where
       most_case : (b : Bool) → first_of f n (suc d) cs ≤ suc d + n → (if b then d else first_of f n (suc d) cs) ≤ d + suc n
       most_case true h = omega arith
       most_case false h = omega arith
+
+-- where two tables have the same lists, the same is found
+pub first_same : (f g : ℕ → List ℕ) (cs : List ℕ) (n d : ℕ) → ((i : ℕ) → i < d + n → f i ≡ g i) → first_of f n d cs ≡ first_of g n d cs
+unfolding first_of
+first_same f g cs zero d h = refl
+first_same f g cs (suc n) d h = rw (h d (omega arith), first_same f g cs n (suc d) (λ i l. h i (omega arith))) refl
 
 -- ---- the thirty patterns
 
@@ -119,16 +125,33 @@ left_set_lem s d hs hd = left_case s (in_set s d) hs (digit_found s d (omega ari
     left_case (suc (suc r)) cs h e f = absurd (not-suc-le-zero (le_of_suc-le-suc (le_of_suc-le-suc h)))
 
 -- the code's table has each pattern at its place
-in_table : T (below (λ s. below (λ d. same (get_or (get_or encodings s []) d []) (in_set s d)) 10) 3)
-unfolding encodings ean13_computes
+in_table : T (below (λ s. below (λ d. same (get_or (get_or ENCODINGS s []) d []) (in_set s d)) 10) 3)
+unfolding ean13_computes
 in_table = tt
 
-pub table_at : (s d : ℕ) → s < 3 → d < 10 → get_or (get_or encodings s []) d [] ≡ in_set s d
+pub table_at : (s d : ℕ) → s < 3 → d < 10 → get_or (get_or ENCODINGS s []) d [] ≡ in_set s d
 table_at s d hs hd =
-    let row = at (λ r. below (λ e. same (get_or (get_or encodings r []) e []) (in_set r e)) 10) 3 in_table s hs in
-    as_same _ _ (at (λ e. same (get_or (get_or encodings s []) e []) (in_set s e)) 10 row d hd)
+    let row = at (λ r. below (λ e. same (get_or (get_or ENCODINGS r []) e []) (in_set r e)) 10) 3 in_table s hs in
+    as_same _ _ (at (λ e. same (get_or (get_or ENCODINGS s []) e []) (in_set s e)) 10 row d hd)
+
+-- so the digit found in a set of the table is the one that is meant
+pub digit_found_in : (s : ℕ) → s < 3 → (cs : List ℕ) → first_of (λ d. get_or (get_or ENCODINGS s []) d []) 10 0 cs ≡ digit_in s cs
+unfolding digit_in
+digit_found_in s h cs = first_same _ (in_set s) cs 10 0 (λ d l. table_at s d h (omega arith))
 
 -- ---- the parity rows
+
+-- the code's table has them
+parities : PARITY ≡ parity_rows
+unfolding parity_rows
+parities = refl
+
+pub row_at : (f : ℕ) → get_or PARITY f [] ≡ parity_row f
+unfolding parity_row
+row_at f = ap (λ (t : List (List ℕ)). get_or t f []) parities
+
+pub first_found : (ss : List ℕ) → first_of (λ f. get_or PARITY f []) 10 0 ss ≡ first_of parity_row 10 0 ss
+first_found ss = first_same _ parity_row ss 10 0 (λ f l. row_at f)
 
 -- sets left of the centre alone
 left : List ℕ → Bool

@@ -2,28 +2,27 @@
 -- Assumes nothing.
 use Prim.Native.Nat.{ℕ, zero, suc, ◌-◌, ◌<◌, ◌≤◌}
 use mathlib.Core.Path.{◌≡◌, refl, sym, ap, ◌∙◌}
-use mathlib.Core.Bool.{Bool, true, false, ◌||◌}
+use mathlib.Core.Bool.{Bool, true, false, not, not-not, ◌||◌}
 use mathlib.Core.List.{List, [], ◌∷◌, append-nil}
-use native.Mathlib.Nat.{not-suc-le-zero, le_of_suc-le-suc}
+use native.Mathlib.Nat.{zero-add, not-suc-le-zero, le_of_suc-le-suc}
 use native.Mathlib.Omega.{arith}
 use lib.Dec.{eqb}
 use lib.ListN.{length, get_or, set, take, drop, length-map, length-append, drop_of_length-le, get_or-eq_default}
-use lib.Seq.{sets, take_all, get_or-take, length-take-le}
+use lib.Seq.{sets, get_or-take, length-take-le}
 use borrow.Author.Tests.{leb-true, eqb-true, eqb-false, eq-eqb}
+use Rattle.std.specs.Prelude.{Result, Err, Some, None, position}
+use Rattle.helpers.proofs.Found.{every_found, every_passed}
 use Rattle.helpers.specs.Answers.{Each, Answer, refuse, accept, Test, refuses, passes, ◌then◌, ask, every, whole, into}
 use Rattle.helpers.specs.Modulo10.{modulo10}
-use Rattle.helpers.specs.Terms.{answers, first_not}
-use Rattle.helpers.specs.Numbers.{refusal_number}
-use Rattle.helpers.specs.declared.Answer as Code
+use Rattle.helpers.specs.Terms.{answers}
+use Rattle.helpers.specs.Numbers.{refusal_number, refusal_second}
 use Rattle.helpers.specs.declared.Refusal.{Refusal}
-use Rattle.helpers.specs.declared.Answer.TheVariants.{Refused}
 use Rattle.helpers.proofs.Answering.{and_true, each_append, each_take, refuse_not_accept, then_accept, then_passes, ask_passes, ask_true, every_good, into_refuse}
-use Rattle.helpers.proofs.Seek.{Seeking, seek_hit, seek_end, every_refuses, every_to_end}
 use Rattle.helpers.proofs.Sums.{check_digit}
 use Rattle.helpers.proofs.Writes.{sets_then, sets_front, sets_prefix}
 use Rattle.helpers.proofs.Gives.{said_refused}
 use Rattle.ean.specs.Ean13.{is_digit, values_of, right_check, thirteen, ean13_row, write_ean13}
-use Rattle.ean.specs.Terms.{Digit, parsed, tested, Listed}
+use Rattle.ean.specs.Terms.{Digit, parsed, tested, listed}
 
 -- ---- digits
 
@@ -34,20 +33,21 @@ digit_bounds c e = let both = and_true _ _ e in (leb-true 48 c both.0, leb-true 
 abbrev pub Digits : List ℕ → Type 0
 Digits text = Each (λ c. is_digit c ≡ true) text
 
--- a loop over the bytes stops at one that is not a digit, or at the end
-module _ {text : List ℕ} {i : ℕ} (p : Seeking is_digit text 0 i) where
-  pub digits_refused : i < length text → is_digit (get_or text i 0) ≡ false → (n : ℕ) → refuse 31 i ≡ (every is_digit 31 0 text then accept n [])
-  unfolding ◌then◌
-  digits_refused h e n =
-      let place : i ≡ first_not is_digit 0 text = seek_hit p h e in
-      rw (every_refuses is_digit 31 0 text (omega arith), ← place)
+-- what the search for a byte that is no digit says of all
+abbrev other : ℕ → Bool
+other c = not (is_digit c)
 
-  pub digits_done : length text ≤ i → accept i [] ≡ (every is_digit 31 0 text then accept (length text) [])
+digit_or_other : (c : ℕ) → is_digit c ≡ not (other c)
+digit_or_other c = sym (not-not (is_digit c))
+
+module _ (text : List ℕ) where
+  pub digits_refused : {k : ℕ} → position other text ≡ Some k → (n : ℕ) → refuse 31 k ≡ (every is_digit 31 0 text then accept n [])
   unfolding ◌then◌
-  digits_done h =
-      let place : i ≡ first_not is_digit 0 text = seek_end p h in
-      let all : i ≡ length text = omega (arith, p.within) in
-      rw (every_to_end is_digit 31 0 text (omega arith)) (ap (λ (k : ℕ). accept k []) all)
+  digits_refused {k} e n = rw (every_found is_digit other digit_or_other 31 0 text e, zero-add k) refl
+
+  pub digits_done : position other text ≡ None → accept (length text) [] ≡ (every is_digit 31 0 text then accept (length text) [])
+  unfolding ◌then◌
+  digits_done e = rw (every_passed is_digit other digit_or_other 31 0 text e) refl
 
 -- ---- the digits of a text as numbers
 
@@ -55,11 +55,11 @@ pub values_length : (text : List ℕ) → length (values_of text) ≡ length tex
 unfolding values_of
 values_length text = length-map text _
 
-pub values_at : (text : List ℕ) (i d : ℕ) → i < length text → get_or text i 0 - 48 ≡ get_or (values_of text) i d
+pub values_at : (text : List ℕ) (i c d : ℕ) → i < length text → get_or text i c - 48 ≡ get_or (values_of text) i d
 unfolding values_of
-values_at [] i d h = absurd (not-suc-le-zero h)
-values_at (c ∷ cs) zero d h = refl
-values_at (c ∷ cs) (suc i) d h = values_at cs i d (le_of_suc-le-suc h)
+values_at [] i c d h = absurd (not-suc-le-zero h)
+values_at (x ∷ text) zero c d h = refl
+values_at (x ∷ text) (suc i) c d h = values_at text i c d (le_of_suc-le-suc h)
 
 pub values_digits : (text : List ℕ) → Digits text → Each Digit (values_of text)
 unfolding values_of
@@ -71,14 +71,14 @@ module _ (text : List ℕ) where
   twelve_length h = length-take-le 12 (values_of text) (omega (arith, values_length text))
 
   pub twelve_at : (i : ℕ) → i < 12 → i < length text → get_or text i 0 - 48 ≡ get_or (take 12 (values_of text)) i 0
-  twelve_at i l h = values_at text i 0 h ∙ sym (get_or-take 12 (values_of text) i 0 l)
+  twelve_at i l h = values_at text i 0 0 h ∙ sym (get_or-take 12 (values_of text) i 0 l)
 
   -- the thirteenth digit of a text of twelve, and of a longer one
   pub verified_short : (check : ℕ) → length text < 13 → true ≡ eqb (get_or (values_of text) 12 check) check
   verified_short check h = sym (eq-eqb _ _ (get_or-eq_default (values_of text) check (omega (arith, values_length text))))
 
-  pub verified_long : (check : ℕ) → 12 < length text → eqb (get_or text 12 0 - 48) check ≡ eqb (get_or (values_of text) 12 check) check
-  verified_long check h = ap (λ (d : ℕ). eqb d check) (values_at text 12 check h)
+  pub verified_long : (check : ℕ) {d : ℕ} → d ≡ get_or text 12 d → 12 < length text → eqb (d - 48) check ≡ eqb (get_or (values_of text) 12 check) check
+  verified_long check {d} e h = ap (λ (x : ℕ). eqb x check) (ap (λ (x : ℕ). x - 48) e ∙ values_at text 12 d check h)
 
   pub thirteen_length : 12 ≤ length text → length (thirteen text) ≡ 13
   unfolding thirteen
@@ -152,10 +152,6 @@ module _ (text : List ℕ) where
   unfolding parsed
   parsed_on l h = sym (then_passes _ _ (ask_true _ 30 (length text) (size_or (length text) l h)))
 
-  -- the same of the whole text as a part of it
-  pub parsed_part : {x : Answer} (n : ℕ) → length text ≡ n → 12 ≤ n → n ≤ 13 → x ≡ (every is_digit 31 0 (take n text) then accept (length (take n text)) []) → x ≡ parsed text
-  parsed_part n e l h f = (rw (take_all n text (omega arith)) at f) ∙ parsed_on (omega arith) (omega arith)
-
   proper_of : (a : Answer) {n : ℕ} {out : List ℕ}
       → (ask (eqb (length text) 12 || eqb (length text) 13) 30 (length text) then every is_digit 31 0 text then a) ≡ accept n out → Proper text
   proper_of a e =
@@ -175,43 +171,41 @@ module _ (text : List ℕ) where
   unfolding parsed tested
   tested_refused k m e = two_tests (refuse k m) (refuse k m) (λ j l r. r) _ _ _ _ (λ r. refuse_not_accept (sym r)) e
 
-  tested_on : (n : ℕ) → parsed text ≡ accept n [] → tested text ≡ (ask right 32 (right_check text) then accept 13 [])
+  tested_on : (n : ℕ) → parsed text ≡ accept n [] → tested text ≡ (ask right 32 (right_check text) then accept 13 (thirteen text))
   unfolding parsed tested
   tested_on n e = two_tests (accept n []) _ (λ j l r. refuse_not_accept r) _ _ _ _ (λ r. refl) e
 
-  -- what is answered for a text, and what stands in the list
-  module _ (out : List ℕ) where
-    listed_refuse : (k m : ℕ) → tested text ≡ refuse k m → Listed text (refuse k m) out
-    listed_refuse k m e = record { answered = sym e; digits = λ f. refuse_not_accept (sym e ∙ f) }
+  -- what is answered for a text
+  pub listed_refused : {v : Result ℕ Refusal} {r : Refusal} → v ≡ Err r → answers v ≡ parsed text → listed (Err r) ≡ tested text
+  unfolding listed
+  listed_refused e h = sym (tested_refused _ _ (said_refused e h))
 
-    pub listed_refused : {v : Code.Answer} {r : Refusal} {k : ℕ} → v ≡ Refused r k → answers v ≡ parsed text → Listed text (answers v) out
-    unfolding answers
-    listed_refused {v} {r} {k} e h = rw e (listed_refuse (refusal_number r) k (tested_refused _ _ (said_refused e h)))
+  module _ (n check : ℕ) (e : parsed text ≡ accept n []) (same : check ≡ right_check text) where
+    pub listed_wrong : eqb (get_or (values_of text) 12 check) check ≡ false → (k : ℕ) → k ≡ check → refuse 32 k ≡ tested text
+    unfolding ◌then◌ ask
+    listed_wrong b k q = rw q (sym (tested_on n e ∙ rw (← same, b)))
 
-    module _ (n check : ℕ) (e : parsed text ≡ accept n []) (same : check ≡ right_check text) where
-      pub listed_wrong : eqb (get_or (values_of text) 12 check) check ≡ false → (k : ℕ) → k ≡ check → Listed text (refuse 32 k) out
-      unfolding ◌then◌ ask
-      listed_wrong b k q = rw q (listed_refuse 32 check (tested_on n e ∙ rw (← same, b)))
-
-      pub listed_right : eqb (get_or (values_of text) 12 check) check ≡ true → out ≡ thirteen text → Listed text (accept 13 []) out
-      unfolding ◌then◌ ask
-      listed_right b f = record { answered = sym (tested_on n e ∙ rw (← same, b)); digits = λ g. f }
+    pub listed_right : eqb (get_or (values_of text) 12 check) check ≡ true → {out : List ℕ} → out ≡ thirteen text → accept 13 out ≡ tested text
+    unfolding ◌then◌ ask
+    listed_right b f = rw f (sym (tested_on n e ∙ rw (← same, b)))
 
   -- ---- write, after the tests
 
-  pub write_refused : (room k m : ℕ) → tested text ≡ refuse k m → write_ean13 room text ≡ refuse k m
-  unfolding tested write_ean13
-  write_refused room k m e =
-      ap (into room) (three_tests (refuse k m) (refuse k m) (λ j l r. r) _ _ _ _ _ (λ r. refuse_not_accept (sym r)) e) ∙ into_refuse room k m
+  pub write_refused : (room : ℕ) (r : Refusal) → listed (Err r) ≡ tested text → write_ean13 room text ≡ refuse (refusal_number r) (refusal_second r)
+  unfolding listed tested write_ean13
+  write_refused room r e =
+      let k = refusal_number r in
+      let m = refusal_second r in
+      ap (into room) (three_tests (refuse k m) (refuse k m) (λ j l q. q) _ _ _ _ _ (λ q. refuse_not_accept (sym q)) (sym e)) ∙ into_refuse room k m
 
-  pub write_on : (room n : ℕ) → tested text ≡ accept n [] → write_ean13 room text ≡ into room (whole (ean13_row (thirteen text)))
+  pub write_on : (room n : ℕ) {ds : List ℕ} → tested text ≡ accept n ds → write_ean13 room text ≡ into room (whole (ean13_row (thirteen text)))
   unfolding tested write_ean13
-  write_on room n e = ap (into room) (three_tests (accept n []) _ (λ j l r. refuse_not_accept r) _ _ _ _ _ (λ r. refl) e)
+  write_on room n {ds} e = ap (into room) (three_tests (accept n ds) _ (λ j l r. refuse_not_accept r) _ _ _ _ _ (λ r. refl) e)
 
-  pub tested_proper : (n : ℕ) → tested text ≡ accept n [] → Proper text
+  pub tested_proper : (n : ℕ) {ds : List ℕ} → tested text ≡ accept n ds → Proper text
   unfolding tested
   tested_proper n e = proper_of _ e
 
-  pub tested_thirteen : (n : ℕ) → tested text ≡ accept n [] → tested text ≡ accept 13 []
+  pub tested_thirteen : (n : ℕ) {ds : List ℕ} → tested text ≡ accept n ds → tested text ≡ accept 13 (thirteen text)
   unfolding tested
-  tested_thirteen n e = three_tests (accept n []) (accept 13 []) (λ j l r. refuse_not_accept r) _ _ _ _ _ (λ r. refl) e
+  tested_thirteen n {ds} e = three_tests (accept n ds) (accept 13 (thirteen text)) (λ j l r. refuse_not_accept r) _ _ _ _ _ (λ r. refl) e

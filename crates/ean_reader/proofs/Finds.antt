@@ -1,114 +1,108 @@
--- The searches of the read side: laws of the loop over cells, of the loop over digits and of the
--- test of every number.
+-- The searches of the read side: cells in a table, cell by cell, and the lists that are looked for.
 -- Assumes nothing.
-use Prim.Native.Nat.{ℕ, suc, ◌+◌, ◌-◌, ◌<◌, ◌≤◌}
-use mathlib.Core.Path.{◌≡◌, refl, sym, ◌∙◌}
+use Prim.Native.Nat.{ℕ, zero, suc, ◌+◌, ◌-◌, ◌<◌, ◌≤◌}
+use mathlib.Core.Path.{◌≡◌, refl, sym, ap, ap₂, ◌∙◌}
 use mathlib.Core.Bool.{Bool, true, false, ◌&&◌}
-use mathlib.Core.List.{List}
-use native.Mathlib.Nat.{sub-zero}
+use mathlib.Core.List.{List, [], ◌∷◌, ◌++◌}
+use native.Mathlib.Nat.{add-zero}
 use native.Mathlib.Numerals.{add-one}
 use native.Mathlib.Omega.{arith}
-use lib.Dec.{eqb}
-use lib.ListN.{length, get_or, take, drop, length-drop, drop_of_length-le}
-use lib.Seq.{drop-cons, length-take-le, take_all, get_or-take, get_or-drop}
-use borrow.Author.Tests.{eq-eqb, ne_eqb, lt-ltb, le-ltb}
+use lib.ListN.{length, get_or, take, drop, take-append-drop}
+use lib.Seq.{length-take-le}
+use borrow.Author.Tests.{eq-eqb}
+use Rattle.std.specs.Int.{w32, from_le_bytes, to_le_bytes}
+use Rattle.std.proofs.lemmas.Nat.{le_bytes_4}
+use Rattle.std.proofs.lemmas.List.{take_rest}
+use Rattle.std.specs.Prelude.{if◌then◌else◌, Option, Some, None, Ok, Err, ok_or, position, cond, nat_eq}
+use Rattle.std.specs.List.{position_from}
+use Rattle.std.specs.Cmp.Lexicographic.{pointwise}
+use Rattle.std.proofs.lemmas.Iterator.Adapters.{position_from-zero}
 use Rattle.helpers.specs.Answers.{same}
-use Rattle.ean.specs.Ean13.{parity_row, first_of}
-use Rattle.ean.specs.Terms.{all_digits}
-use Rattle.ean.proofs.Tables.{parity_length}
+use Rattle.helpers.proofs.Same.{same_true, same_refl}
+use Rattle.ean.proofs.Reading.{one_truth}
+use Rattle.ean.specs.Ean13.{first_of}
+use Rattle.ean.specs.Terms.{Found}
 
--- ---- the loop over cells
+-- what `==` of slices says
+pub cells_same : (xs ys : List ℕ) → pointwise nat_eq xs ys ≡ same xs ys
+unfolding same
+cells_same [] [] = refl
+cells_same [] (y ∷ ys) = refl
+cells_same (x ∷ xs) [] = refl
+cells_same (x ∷ xs) (y ∷ ys) = ap (λ (b : Bool). nat_eq x y && b) (cells_same xs ys)
 
--- as many cells of a row as cs has, from place `from` on
-abbrev pub part : List ℕ → List ℕ → ℕ → List ℕ
-part cs row from = take (length cs) (drop from row)
+-- ---- four cells asked at once
 
--- A loop that compares cs with the cells of a row from place `from` on, and has come to cell j.
-pub record Matching (cs row : List ℕ) (from j : ℕ) : Type 0 where
-  pub within : j ≤ length cs
-  pub rest : same cs (part cs row from) ≡ same (drop j cs) (drop j (part cs row from))
+abbrev Bytes : List ℕ → Type 0
+Bytes l = (i : ℕ) → get_or l i 0 < 256
 
-pub match_begin : {cs row : List ℕ} {from : ℕ} → Matching cs row from 0
-match_begin = record { within = omega arith; rest = refl }
+bytes_take : (n : ℕ) (l : List ℕ) → Bytes l → Bytes (take n l)
+bytes_take zero l h i = omega arith
+bytes_take (suc n) [] h i = h i
+bytes_take (suc n) (x ∷ l) h zero = h 0
+bytes_take (suc n) (x ∷ l) h (suc i) = bytes_take n l (λ k. h (suc k)) i
 
-pub part_length : (cs row : List ℕ) (from : ℕ) → from + length cs ≤ length row → length (part cs row from) ≡ length cs
-part_length cs row from h = length-take-le (length cs) (drop from row) (omega (arith, length-drop from row))
+-- lists that begin alike are told apart by the rest
+same_rest : (p xs ys : List ℕ) → pointwise nat_eq (p ++ xs) (p ++ ys) ≡ pointwise nat_eq xs ys
+same_rest [] xs ys = refl
+same_rest (x ∷ p) xs ys = rw (eq-eqb x x refl) (same_rest p xs ys)
 
-module _ {cs row : List ℕ} {from j : ℕ} (p : Matching cs row from j) (h : from + length cs ≤ length row) where
-  -- the cells at j, and those after them
-  on : j < length cs → same cs (part cs row from) ≡ eqb (get_or cs j 0) (get_or row (from + j) 0) && same (drop (j + 1) cs) (drop (j + 1) (part cs row from))
-  unfolding same
-  on l =
-      let here : get_or (part cs row from) j 0 ≡ get_or row (from + j) 0 = get_or-take (length cs) (drop from row) j 0 l ∙ get_or-drop from row j 0 in
-      p.rest ∙ rw (drop-cons cs j 0 l, drop-cons (part cs row from) j 0 (omega (arith, part_length cs row from h)), here, add-one j) refl
+module _ (xs ys : List ℕ) (long : 4 ≤ length xs) (alike : length xs ≡ length ys) (h : Bytes xs) (k : Bytes ys) where
+  four : (l : List ℕ) → Bytes l → 4 ≤ length l → {n : ℕ} → n ≡ from_le_bytes w32 (take 4 l) → to_le_bytes w32 n ≡ take 4 l
+  four l b m e = le_bytes_4 (take 4 l) _ (length-take-le 4 l m) (bytes_take 4 l b) e
 
-  pub match_turn : j < length cs → get_or row (from + j) 0 ≡ get_or cs j 0 → Matching cs row from (j + 1)
-  match_turn l e = record { within = omega arith; rest = on l ∙ rw (eq-eqb _ _ (sym e)) refl }
+  pub fours_same : {n m : ℕ} → n ≡ from_le_bytes w32 (take 4 xs) → m ≡ from_le_bytes w32 (take 4 ys) → n ≡ m
+      → pointwise nat_eq (take (length xs - 4) (drop 4 xs)) (take (length ys - 4) (drop 4 ys)) ≡ pointwise nat_eq xs ys
+  fours_same e f q =
+      let front : take 4 xs ≡ take 4 ys = sym (four xs h long e) ∙ ap (to_le_bytes w32) q ∙ four ys k (omega arith) f in
+      ap₂ (pointwise nat_eq) (take_rest xs 4) (take_rest ys 4)
+      ∙ sym (ap₂ (pointwise nat_eq) (sym (take-append-drop 4 xs)) (sym (take-append-drop 4 ys) ∙ ap (λ (l : List ℕ). l ++ drop 4 ys) (sym front)) ∙ same_rest (take 4 xs) (drop 4 xs) (drop 4 ys))
 
-  pub match_not : j < length cs → (get_or row (from + j) 0 ≡ get_or cs j 0 → ⊥) → false ≡ same cs (part cs row from)
-  match_not l e = sym (on l ∙ rw (ne_eqb _ _ (λ q. e (sym q))) refl)
+-- the place of some cells in a table, from place i on
+module _ (table : List (List ℕ)) (cs : List ℕ) where
+  abbrev list : ℕ → List ℕ
+  list d = get_or table d []
 
-  pub match_end : length cs ≤ j → true ≡ same cs (part cs row from)
-  unfolding same
-  match_end l = sym (p.rest ∙ rw (drop_of_length-le cs l, drop_of_length-le (part cs row from) {i = j} (omega (arith, part_length cs row from h))) refl)
+  abbrev is : List ℕ → Bool
+  is l = pointwise nat_eq l cs
 
--- what was compared with cells is what was compared with the list that they are
-pub held : {r : Bool} (cells want row : List ℕ) (from n : ℕ) → r ≡ same cells (take (length cells) (drop from row)) → cells ≡ want → length want ≡ n → r ≡ same want (take n (drop from row))
-held cells want row from n s e l = rw (e, l) at s
+  abbrev Placed : Option ℕ → ℕ → ℕ → Type 0
+  Placed None n end = n ≡ end
+  Placed (Some d) n end = (d ≡ n) × (d < end)
 
--- ---- the loop over digits
-
--- A loop that has held cs against the lists of the first d of n numbers, and it was none of them.
-pub record Hunting (f : ℕ → List ℕ) (n : ℕ) (cs : List ℕ) (d : ℕ) : Type 0 where
-  pub within : d ≤ n
-  pub rest : first_of f n 0 cs ≡ first_of f (n - d) d cs
-
-pub hunt_begin : {f : ℕ → List ℕ} {n : ℕ} {cs : List ℕ} → Hunting f n cs 0
-hunt_begin {f} {n} {cs} = record { within = omega arith; rest = rw (sub-zero n) refl }
-
-module _ {f : ℕ → List ℕ} {n d : ℕ} {cs : List ℕ} (p : Hunting f n cs d) where
-  pub hunt_turn : d < n → same (f d) cs ≡ false → Hunting f n cs (d + 1)
+  from : (xs : List (List ℕ)) (i end : ℕ) → end ≡ i + length xs → ((k : ℕ) → list (i + k) ≡ get_or xs k []) → Placed (position_from is i xs) (first_of list (length xs) i cs) end
   unfolding first_of
-  hunt_turn h e =
-      let less : n - d ≡ suc (n - (d + 1)) = omega arith in
-      record { within = omega arith; rest = p.rest ∙ rw (less, e, add-one d) refl }
+  from [] i end e h = omega arith
+  from (x ∷ xs) i end e h =
+      let here : list i ≡ x = ap list (sym (add-zero i)) ∙ h 0 in
+      rw (here, ← cells_same x cs) (by_case (is x) (rw (add-one i) (from xs (suc i) end (omega arith) (λ k. ap list (omega arith) ∙ h (suc k)))))
+    where
+      by_case : (b : Bool) → Placed (position_from is (i + 1) xs) (first_of list (length xs) (suc i) cs) end
+          → Placed (cond b (Some i) (position_from is (i + 1) xs)) (if b then i else first_of list (length xs) (suc i) cs) end
+      by_case true p = (refl, omega arith)
+      by_case false p = p
 
-  pub hunt_hit : d < n → same (f d) cs ≡ true → d ≡ first_of f n 0 cs
-  unfolding first_of
-  hunt_hit h e =
-      let less : n - d ≡ suc (n - (d + 1)) = omega arith in
-      sym (p.rest ∙ rw (less, e) refl)
+  pub placed : {r : Option ℕ} → length table ≡ 10 → r ≡ position is table → Found r (first_of list 10 0 cs)
+  placed {r} h e =
+      let here : Placed (position_from is 0 table) (first_of list (length table) 0 cs) 10 = from table 0 10 (omega arith) (λ k. ap list (omega arith)) in
+      rw (e, position_from-zero is table) (as_found _ _ (rw h at here))
+    where
+      as_found : (q : Option ℕ) (n : ℕ) → Placed q n 10 → Found q n
+      as_found None n p = p
+      as_found (Some d) n p = p
 
-  pub hunt_end : n ≤ d → n ≡ first_of f n 0 cs
-  unfolding first_of
-  hunt_end h =
-      let none : n - d ≡ 0 = omega arith in
-      let last : n ≡ d = omega (arith, p.within) in
-      last ∙ sym (p.rest ∙ rw none refl)
+-- two tests of cells, the one way round and the other
+pub cells_other : (xs ys : List ℕ) → pointwise nat_eq ys xs ≡ same xs ys
+cells_other xs ys = cells_same ys xs ∙ one_truth (same ys xs) (same xs ys) (turned ys xs) (turned xs ys)
+  where
+    turned : (us vs : List ℕ) → same us vs ≡ true → same vs us ≡ true
+    turned us vs e = rw (same_true us vs e) (same_refl vs)
 
--- a parity row at hand, held against six sets
-pub held_row : {r : Bool} (d : ℕ) (sides : List ℕ) → d < 10 → length sides ≡ 6 → r ≡ same (parity_row d) (take (length (parity_row d)) (drop 0 sides)) → r ≡ same (parity_row d) sides
-held_row d sides l h s = rw (parity_length d l, take_all 6 sides (omega arith)) at s
+-- what `ok_or` made an error, and what it passed on
+pub given_none : {T E : Type 0} (o : Option T) {e r : E} → Err r ≡ ok_or o e → (o ≡ None) × (r ≡ e)
+given_none None h = (refl, cc)
+given_none (Some x) h = absurd cc
 
--- ---- the test of every number
-
--- A loop that has found the first i numbers to be digits.
-pub record Testing (ds : List ℕ) (i : ℕ) : Type 0 where
-  pub within : i ≤ length ds
-  pub rest : all_digits ds ≡ all_digits (drop i ds)
-
-pub test_begin : {ds : List ℕ} → Testing ds 0
-test_begin = record { within = omega arith; rest = refl }
-
-module _ {ds : List ℕ} {i : ℕ} (p : Testing ds i) where
-  pub test_turn : i < length ds → get_or ds i 0 < 10 → Testing ds (i + 1)
-  unfolding all_digits
-  test_turn h l = record { within = omega arith; rest = p.rest ∙ rw (drop-cons ds i 0 h, lt-ltb _ _ l, add-one i) refl }
-
-  pub test_not : i < length ds → 10 ≤ get_or ds i 0 → false ≡ all_digits ds
-  unfolding all_digits
-  test_not h l = sym (p.rest ∙ rw (drop-cons ds i 0 h, le-ltb _ _ l) refl)
-
-  pub test_end : length ds ≤ i → true ≡ all_digits ds
-  unfolding all_digits
-  test_end h = sym (p.rest ∙ rw (drop_of_length-le ds h) refl)
+pub given_some : {T E : Type 0} (o : Option T) (e : E) {x : T} → Ok x ≡ ok_or o e → o ≡ Some x
+given_some None e h = absurd cc
+given_some (Some y) e h = cc

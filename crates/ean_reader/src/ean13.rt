@@ -1,192 +1,152 @@
 // EAN-13: a row of 95 cells back to its thirteen digits.
-ghost use Rattle.std.specs.Prelude.{◌+◌, ◌*◌, ◌<◌, ◌≤◌, true, ◌≡◌, map, length, take, drop};
+ghost use Rattle.std.specs.Prelude.{◌+◌, ◌<◌, ◌≤◌, true, false, ◌≡◌, ◌&&◌, map, length, take, position, MatchOption, nat_eq, get_or, []};
+ghost use Rattle.std.specs.Int.{w32, from_le_bytes};
+ghost use Rattle.std.specs.Cmp.Lexicographic.{pointwise};
 ghost use Rattle.std.proofs.lemmas.List.Edits.{sets};
-ghost use Rattle.helpers.specs.Answers.{same, Each, Gave};
+ghost use Rattle.helpers.specs.Answers.{Each, Gave};
 ghost use Rattle.helpers.specs.Numbers.{number_of, second_of};
-ghost use Rattle.ean.specs.Ean13.{set_c, parity_row, first_of, digit_cells, digit_in, left_set, list_of, digits_read, read_ean13};
-ghost use Rattle.ean.specs.Terms.{Digit, encodings, quad_at, LeftOf, framed, all_digits, checked};
+ghost use Rattle.ean.specs.Ean13.{digit_in, left_set, first_of, digits_read, read_ean13};
+ghost use Rattle.ean.specs.Terms.{Digit, Found, LeftOf, sets_left, digits_left, digits_right, framed, all_digits, checked};
 
+use ean::ean13::{CELLS, ENCODINGS, LEFT_GUARD, MIDDLE_GUARD, PARITY, RIGHT_GUARD};
 use helpers::{Answer, Refusal};
 
 // A digit left of the centre, and the set that it is drawn in.
+// Stays: the set as 0 or 1, as in ean's PARITY: six of them are looked up as one of its rows.
 #[derive(Drop)]
 struct Drawn {
     side: u8,
     digit: u8,
 }
 
-// Whether the cells from place `at` on are these.
-fn same_at(row: &[u8], at: usize, cells: &[u8]) -> bool
-    requires { at + length cells.now ≤ length row.now }
-    ensures { result ≡ same cells.now (take (length cells.now) (drop at row.now)) }
+// Four cells as one number.
+fn quad(cells: &[u8]) -> u32
+    requires { 4 ≤ length cells.now }
+    ensures { result ≡ from_le_bytes w32 (take 4 cells.now) }
 {
-    let mut j: usize = 0;
-    while j < cells.len() {
-        if row[at + j] != cells[j] {
-            return false;
-        }
-        j += 1;
-    }
-    true
+    u32::from_le_bytes([cells[0], cells[1], cells[2], cells[3]])
 }
 
-// Four bytes from place `at` on as one number, the first the lowest.
-fn quad(cells: &[u8], at: usize) -> u32
-    requires { at + 4 ≤ length cells.now }
-    ensures { result ≡ quad_at cells.now at }
+// Whether two lists of cells are the same: the first four are asked at once, so that most that
+// differ are told by one test.
+// Stays: with `list == cells` read takes 1.58 of the time, and misses 1.5 of plain Rust's, its bar.
+fn same_cells(list: &[u8], cells: &[u8]) -> bool
+    requires { (4 ≤ length list.now) × (length list.now ≡ length cells.now) }
+    ensures { result ≡ pointwise nat_eq list.now cells.now }
 {
-    let third = (cells[at + 2] as u32) + 256 * (cells[at + 3] as u32);
-    let second = (cells[at + 1] as u32) + 256 * third;
-    (cells[at] as u32) + 256 * second
+    quad(list) == quad(cells) && list[4..] == cells[4..]
 }
 
-// Whether the cells from place `at` on are these, four or more: the first four are asked at once,
-// so that most blocks that differ are told by one test.
-fn same_block(row: &[u8], at: usize, cells: &[u8]) -> bool
-    requires { (4 ≤ length cells.now) × (at + length cells.now ≤ length row.now) }
-    ensures { result ≡ same cells.now (take (length cells.now) (drop at row.now)) }
+// The place of some cells in a table.
+// Stays: 4 ≤ N is asked, since same_cells, kept for speed, asks the first four at once.
+fn place_of<const N: usize>(table: &[[u8; N]; 10], cells: &[u8; N]) -> Option<usize>
+    requires { 4 ≤ N }
+    ensures { result ≡ position (λ list. pointwise nat_eq list cells.now) table.now }
 {
-    if quad(row, at) != quad(cells, 0) {
-        return false;
-    }
-    let end = cells.len();
-    same_at(row, at + 4, &cells[4..end])
+    let is = |list: &[u8; N]| -> bool
+        requires { 4 ≤ length cells.now }
+        ensures { result ≡ pointwise nat_eq list.now cells.entry.now }
+    { same_cells(list, cells) };
+    table.iter().position(is)
 }
 
-// The digit whose cells in a set stand from place `at` on, and 10 where there is none.
-fn digit_in(table: &[[[u8; 7]; 10]; 3], side: usize, row: &[u8], at: usize) -> u8
-    requires { (table.now ≡ encodings) × (side < 3) × (at + 7 ≤ length row.now) }
-    ensures { result ≡ digit_in side (take 7 (drop at row.now)) }
+// The digit whose list in a table is these cells.
+fn find<const N: usize>(table: &[[u8; N]; 10], cells: &[u8; N]) -> Option<u8>
+    requires { 4 ≤ N }
+    ensures { Found result (first_of (λ d. get_or table.now d []) 10 0 cells.now) }
 {
-    let mut d: usize = 0;
-    while d < 10 {
-        if same_block(row, at, &table[side][d]) {
-            return d as u8;
-        }
-        d += 1;
-    }
-    10
+    let d = place_of(table, cells)?;
+    Some(d as u8)
 }
 
-// The first digit: the one whose parity row these sets are, and 10 where there is none.
-fn first_digit(sides: &[u8]) -> u8
-    requires { length sides.now ≡ 6 }
-    ensures { result ≡ first_of parity_row 10 0 sides.now }
+// The digit left of the centre that some cells are: of A, or if it is none of A, of B.
+fn left_digit(cells: &[u8; 7]) -> Option<Drawn>
+    ensures { MatchOption result (digit_in (left_set cells.now) cells.now ≡ 10) (λ x. LeftOf cells.now x.side x.digit) }
 {
-    let parity = ean::ean13::PARITY;
-    let mut d: usize = 0;
-    while d < 10 {
-        if same_block(sides, 0, &parity[d]) {
-            return d as u8;
-        }
-        d += 1;
-    }
-    10
-}
-
-// The digit left of the centre that stands from place `at` on: of A, or if it is none of A, of B.
-fn left_digit(table: &[[[u8; 7]; 10]; 3], row: &[u8], at: usize) -> Drawn
-    requires { (table.now ≡ encodings) × (at + 7 ≤ length row.now) }
-    ensures { LeftOf (take 7 (drop at row.now)) result.side result.digit }
-{
-    let digit = digit_in(table, 0, row, at);
-    if digit < 10 {
-        return Drawn { side: 0, digit };
-    }
-    Drawn {
-        side: 1,
-        digit: digit_in(table, 1, row, at),
+    match find(&ENCODINGS[0], cells) {
+        Some(digit) => Some(Drawn { side: 0, digit }),
+        None => Some(Drawn {
+            side: 1,
+            digit: find(&ENCODINGS[1], cells)?,
+        }),
     }
 }
 
-// The six digits left of the centre, and their sets.
-fn left_digits(table: &[[[u8; 7]; 10]; 3], row: &[u8], sides: &mut [u8], digits: &mut [u8])
-    requires { (table.now ≡ encodings) × (95 ≤ length row.now) × (length sides.old ≡ 6) × (length digits.old ≡ 6) }
-    ensures { (sides.new ≡ list_of (λ k. left_set (digit_cells k row.now)) 0 6) × (digits.new ≡ sets digits.old 0 (list_of (λ k. digit_in (left_set (digit_cells k row.now)) (digit_cells k row.now)) 0 6)) }
+// The six digits left of the centre, after their sets.
+// Stays: two arrays, not six `Drawn`, since the six sets are looked up as one row of PARITY.
+fn left_digits(row: &[u8; CELLS]) -> Option<([u8; 6], [u8; 6])>
+    ensures { MatchOption result (all_digits (digits_left row.now) ≡ false) (λ p. (p.0 ≡ sets_left row.now) × (p.1 ≡ digits_left row.now) × (all_digits (digits_left row.now) ≡ true)) }
 {
-    let mut k: usize = 0;
-    while k < 6 {
-        let left = left_digit(table, row, 3 + 7 * k);
+    let mut sides = [0; 6];
+    let mut digits = [0; 6];
+    let (blocks, _) = row[3..45].as_chunks::<7>();
+    for (k, cells) in blocks.iter().enumerate() {
+        let left = left_digit(cells)?;
+        // Stays: by index: two arrays, and after a zip with iter_mut a proof knows no element.
         sides[k] = left.side;
         digits[k] = left.digit;
-        k += 1;
     }
+    Some((sides, digits))
 }
 
 // The six digits right of the centre.
-fn right_digits(table: &[[[u8; 7]; 10]; 3], row: &[u8], digits: &mut [u8])
-    requires { (table.now ≡ encodings) × (95 ≤ length row.now) × (length digits.old ≡ 6) }
-    ensures { digits.new ≡ sets digits.old 0 (list_of (λ k. digit_in set_c (digit_cells k row.now)) 6 6) }
+fn right_digits(row: &[u8; CELLS]) -> Option<[u8; 6]>
+    ensures { MatchOption result (all_digits (digits_right row.now) ≡ false) (λ ds. (ds ≡ digits_right row.now) × (all_digits (digits_right row.now) ≡ true)) }
 {
-    let mut k: usize = 0;
-    while k < 6 {
-        digits[k] = digit_in(table, 2, row, 50 + 7 * k);
-        k += 1;
+    let mut digits = [0; 6];
+    let (blocks, _) = row[50..92].as_chunks::<7>();
+    for (k, cells) in blocks.iter().enumerate() {
+        // Stays: by index: no element is known after iter_mut().zip, and enumerate indexes blocks.
+        digits[k] = find(&ENCODINGS[2], cells)?;
     }
+    Some(digits)
 }
 
-// The thirteen digits that a row can be of, 10 where it has none.
-fn read_digits(row: &[u8], digits: &mut [u8])
-    requires { (95 ≤ length row.now) × (length digits.old ≡ 13) }
-    ensures { digits.new ≡ digits_read row.now }
+// The thirteen digits that a row can be of.
+fn read_digits(row: &[u8; CELLS]) -> Option<[u8; 13]>
+    ensures { MatchOption result (all_digits (digits_read row.now) ≡ false) (λ ds. (ds ≡ digits_read row.now) × (all_digits (digits_read row.now) ≡ true)) }
 {
-    let table = ean::ean13::ENCODINGS;
-    let mut sides: [u8; 6] = [0; 6];
-    left_digits(&table, row, &mut sides, &mut digits[1..7]);
-    right_digits(&table, row, &mut digits[7..13]);
-    digits[0] = first_digit(&sides);
+    let (sides, left) = left_digits(row)?;
+    let right = right_digits(row)?;
+    let mut digits = [0; 13];
+    digits[0] = find(&PARITY, &sides)?;
+    digits[1..7].copy_from_slice(&left);
+    digits[7..].copy_from_slice(&right);
+    Some(digits)
 }
 
-// Whether a row has the length and the guards.
-fn has_guards(row: &[u8]) -> bool
+// Whether a row of the right length has the guards.
+fn has_guards(row: &[u8; CELLS]) -> bool
     ensures { result ≡ framed row.now }
 {
-    if row.len() != ean::ean13::CELLS {
-        return false;
-    }
-    if !same_at(row, 0, &ean::ean13::LEFT_GUARD) {
-        return false;
-    }
-    if !same_at(row, 45, &ean::ean13::MIDDLE_GUARD) {
-        return false;
-    }
-    same_at(row, 92, &ean::ean13::RIGHT_GUARD)
+    row[..3] == LEFT_GUARD[..] && row[45..50] == MIDDLE_GUARD[..] && row[92..95] == RIGHT_GUARD[..]
 }
 
-// Whether all numbers are digits.
-fn all_digits(digits: &[u8]) -> bool
-    ensures { result ≡ all_digits digits.now }
+// The thirteen digits of a row that has the length and the guards, all digits, and the check last.
+fn digits_of(row: &[u8]) -> Option<[u8; 13]>
+    ensures { MatchOption result ((framed row.now && checked (digits_read row.now)) ≡ false) (λ ds. (ds ≡ digits_read row.now) × ((framed row.now && checked (digits_read row.now)) ≡ true)) }
 {
-    let mut i: usize = 0;
-    while i < digits.len() {
-        if 10 <= digits[i] {
-            return false;
-        }
-        i += 1;
+    let row = row.as_array::<CELLS>()?;
+    if !has_guards(row) {
+        return None;
     }
-    true
-}
-
-// Whether thirteen numbers are digits, and the last is the check of the others.
-fn is_checked(digits: &[u8]) -> bool
-    requires { length digits.now ≡ 13 }
-    ensures { result ≡ checked digits.now }
-{
-    if !all_digits(digits) {
-        return false;
+    let digits = read_digits(row)?;
+    let check = helpers::modulo_10_checksum(&digits[..12], true);
+    if digits[12] == check {
+        Some(digits)
+    } else {
+        None
     }
-    digits[12] == helpers::modulo_10_checksum(&digits[0..12], true)
 }
 
 // Writes thirteen digits as ASCII bytes.
-fn put_text(digits: &[u8], text: &mut [u8])
-    requires { Each Digit digits.now × (length digits.now ≡ 13) × (13 ≤ length text.old) }
+// Stays: written by index, since a proof knows no element after a `zip` with `iter_mut`.
+fn put_text(digits: &[u8; 13], text: &mut [u8])
+    requires { Each Digit digits.now × (13 ≤ length text.old) }
     ensures { text.new ≡ sets text.old 0 (map (λ d. d + 48) digits.now) }
 {
-    let mut i: usize = 0;
-    while i < 13 {
-        text[i] = digits[i] + 48;
-        i += 1;
+    for (i, d) in digits.iter().enumerate() {
+        text[i] = d + b'0';
     }
 }
 
@@ -194,17 +154,10 @@ fn put_text(digits: &[u8], text: &mut [u8])
 pub fn read(row: &[u8], text: &mut [u8]) -> Answer
     ensures { Gave (read_ean13 (length text.old) row.now) (number_of result) (second_of result) text.old text.new }
 {
-    if !has_guards(row) {
-        return Answer::Refused(Refusal::Row, 0);
-    }
-    let mut digits: [u8; 13] = [0; 13];
-    read_digits(row, &mut digits);
-    if !is_checked(&digits) {
-        return Answer::Refused(Refusal::Row, 0);
-    }
+    let digits = digits_of(row).ok_or(Refusal::Row(0))?;
     if text.len() < 13 {
-        return Answer::Refused(Refusal::Room, 13);
+        return Err(Refusal::Room(13));
     }
     put_text(&digits, text);
-    Answer::Done(13)
+    Ok(13)
 }

@@ -11,9 +11,9 @@ use lib.Seq.{sets, length-sets}
 use Rattle.helpers.specs.Answers as Paper
 use Rattle.helpers.specs.Answers.{refuse, accept, number, second, after, Gave}
 use Rattle.helpers.specs.declared.Refusal.{Refusal}
-use Rattle.helpers.specs.declared.Answer.{Answer}
-use Rattle.helpers.specs.declared.Answer.TheVariants.{Done, Refused}
-use Rattle.helpers.specs.Numbers.{refusal_number, number_of, second_of}
+use Rattle.std.specs.Prelude.{Result, Ok, Err, IsErrAnd}
+use Rattle.std.proofs.lemmas.Result.{err_from_is_err_and}
+use Rattle.helpers.specs.Numbers.{refusal_number, refusal_second, number_of, second_of}
 use Rattle.helpers.specs.Terms.{answers, bare, Stored}
 use Rattle.helpers.proofs.Answering.{refuse_not_accept, accept_number}
 use Rattle.helpers.proofs.Writes.{sets_then, sets_front, sets_prefix}
@@ -22,35 +22,35 @@ use Rattle.helpers.proofs.Part.{part_stored}
 -- ---- a job's promise
 
 -- the job's answer is this refusal, and nothing was written
-pub refused : {a : Paper.Answer} {buf : List ℕ} (r : Refusal) (k : ℕ) → a ≡ refuse (refusal_number r) k → Gave a (number_of (Refused r k)) (second_of (Refused r k)) buf buf
+pub refused : {a : Paper.Answer} {buf : List ℕ} (r : Refusal) → a ≡ refuse (refusal_number r) (refusal_second r) → Gave a (number_of (Err r)) (second_of (Err r)) buf buf
 unfolding number second after number_of second_of
-refused {a} {buf} r k e = record { gave_number = rw e; gave_second = rw e; gave_buffer = rw e }
+refused {a} {buf} r e = record { gave_number = rw e; gave_second = rw e; gave_buffer = rw e }
 
 -- the job's answer is the output, stored from place 0 on
 pub stored : {a : Paper.Answer} {buf m : List ℕ} (n : ℕ) (out : List ℕ) → a ≡ accept n out → length out ≤ length buf → m ≡ sets buf 0 out
-    → Gave a (number_of (Done n)) (second_of (Done n)) buf m
+    → Gave a (number_of (Ok n)) (second_of (Ok n)) buf m
 unfolding number second after number_of second_of
 stored {a} {buf} {m} n out e h f = record { gave_number = rw e; gave_second = rw e; gave_buffer = f ∙ sets_front buf out h ∙ rw e }
 
 -- the job's answer is what a callee answered, which wrote nothing
-pub handed_on : {a : Paper.Answer} {buf : List ℕ} (v : Answer) → answers v ≡ a → Gave a (number_of v) (second_of v) buf buf
+pub handed_on : {a : Paper.Answer} {buf : List ℕ} (v : Result ℕ Refusal) → answers v ≡ a → Gave a (number_of v) (second_of v) buf buf
 unfolding answers number second after number_of second_of
-handed_on (Done n) e = rw (← e) (record { gave_number = refl; gave_second = refl; gave_buffer = refl })
-handed_on (Refused r k) e = refused r k (sym e)
+handed_on (Ok n) e = rw (← e) (record { gave_number = refl; gave_second = refl; gave_buffer = refl })
+handed_on (Err r) e = refused r (sym e)
 
 -- what a callee answered, by cases
-pub said_refused : {v : Answer} {r : Refusal} {k : ℕ} {x : Paper.Answer} → v ≡ Refused r k → answers v ≡ x → x ≡ refuse (refusal_number r) k
+pub said_refused : {v : Result ℕ Refusal} {r : Refusal} {x : Paper.Answer} → v ≡ Err r → answers v ≡ x → x ≡ refuse (refusal_number r) (refusal_second r)
 unfolding answers
-said_refused {r} {k} e h = sym h ∙ rw e
+said_refused {r} e h = sym h ∙ rw e
 
-pub said_done : {v : Answer} {n : ℕ} {x : Paper.Answer} → v ≡ Done n → answers v ≡ x → x ≡ accept n []
+pub said_done : {v : Result ℕ Refusal} {n : ℕ} {x : Paper.Answer} → v ≡ Ok n → answers v ≡ x → x ≡ accept n []
 unfolding answers
 said_done e h = sym h ∙ rw e
 
--- a refusal of a callee is the job's, where the job refuses so
-pub refused_on : {a x : Paper.Answer} {buf : List ℕ} {v : Answer} {r : Refusal} {k : ℕ} → v ≡ Refused r k → answers v ≡ x
-    → (x ≡ refuse (refusal_number r) k → a ≡ refuse (refusal_number r) k) → Gave a (number_of v) (second_of v) buf buf
-refused_on {v} e h f = handed_on v (h ∙ said_refused e h ∙ sym (f (said_refused e h)))
+-- what `?` hands on is a callee's refusal, which is the job's
+pub refused_through : {a : Paper.Answer} {buf : List ℕ} (r : Refusal) (v : Result ℕ Refusal) → IsErrAnd v (λ x. x ≡ r) → a ≡ refuse (refusal_number r) (refusal_second r)
+    → Gave a (number_of v) (second_of v) buf buf
+refused_through r v i e = let p = err_from_is_err_and v i in rw (p.1, p.2) (refused _ e)
 
 -- ---- an answer without its output, and the answer
 

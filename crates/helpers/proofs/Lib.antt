@@ -7,7 +7,7 @@ pub mod Owed
 pub mod Order
 pub mod Writes
 pub mod Part
-pub mod Seek
+pub mod Found
 pub mod Gives
 pub mod Answers
 pub mod Sums

@@ -2,7 +2,7 @@
 -- Assumes nothing.
 use mathlib.Core.Path.{◌≡◌, refl, sym, ap₂}
 use mathlib.Core.Logic.{◌≢◌}
-use mathlib.Core.Bool.{Bool, true, false, not}
+use mathlib.Core.Bool.{true, not}
 use mathlib.Core.List.{List, [], ◌∷◌}
 use Prim.Native.Nat.{ℕ, ◌≤◌}
 use lib.Dec.{leb, eqb, T}
@@ -28,13 +28,6 @@ same_refl (x ∷ xs) = rw (eq-eqb x x refl) (same_refl xs)
 
 pub eq_same : (xs ys : List ℕ) → xs ≡ ys → same xs ys ≡ true
 eq_same xs ys e = rw e (same_refl ys)
-
-pub ne_same : (xs ys : List ℕ) → xs ≢ ys → same xs ys ≡ false
-ne_same xs ys n = same_case (same xs ys) refl
-  where
-    same_case : (b : Bool) → same xs ys ≡ b → b ≡ false
-    same_case true e = absurd (n (same_true xs ys e))
-    same_case false e = refl
 
 -- ---- computed tests, as facts
 

@@ -10,9 +10,10 @@ use native.Mathlib.Nat.{not-suc-le-zero, le_of_suc-le-suc}
 use native.Mathlib.Numerals.{add-one}
 use native.Mathlib.Omega.{arith}
 use native.Mathlib.Decide.{dec_lt}
-use lib.ListN.{length, get_or, take, drop, set, length-drop, drop_of_length-le, take-append-drop}
-use lib.Seq.{drop-cons, drop-drop, length-take-le}
+use lib.ListN.{length, get_or, drop, set, length-append, drop_of_length-le}
+use lib.Seq.{drop-cons}
 use lib.Dec.{eqb}
+use Rattle.std.proofs.lemmas.List.{nil_from_length}
 use Rattle.helpers.specs.Terms.{Turn}
 use Rattle.helpers.specs.Modulo10.{in_turn, first_weight, modulo10}
 use Rattle.helpers.proofs.Below.{at}
@@ -81,37 +82,34 @@ weight_even w (suc m) h =
     let same : 4 - (4 - w) ≡ w = omega arith in
     ap (weight_at w) two ∙ ap (λ (v : ℕ). weight_at v (2 * m)) same ∙ weight_even w m h
 
--- A loop that has summed the digits before place i, in parts, and kept the last digit of the sum.
-pub record Parting (ds : List ℕ) (w sum i : ℕ) : Type 0 where
-  pub within : i ≤ length ds
+-- A loop that sums digits in parts, and keeps the last digit of the sum: rest is left to sum.
+pub record Parting (ds : List ℕ) (w sum : ℕ) (rest : List ℕ) : Type 0 where
   pub last : sum < 10
-  pub left : (sum + in_turn w (drop i ds)) % 10 ≡ in_turn w ds % 10
+  pub left : (sum + in_turn w rest) % 10 ≡ in_turn w ds % 10
 
-pub parting_begin : {ds : List ℕ} {w : ℕ} → Parting ds w 0 0
-parting_begin {ds} {w} = record { within = omega arith; last = omega arith; left = omega arith }
+pub parting_begin : {ds : List ℕ} {w : ℕ} → Parting ds w 0 ds
+parting_begin {ds} {w} = record { last = omega arith; left = omega arith }
 
-module _ {ds : List ℕ} {w sum i : ℕ} (p : Parting ds w sum i) where
+module _ {ds : List ℕ} {w sum : ℕ} {rest : List ℕ} (p : Parting ds w sum rest) where
   -- the next part has 1,000 digits, or all that are left
-  next_part : (n : ℕ) → w ≤ 3 → n ≡ min (length ds - i) 1000 → in_turn w (drop i ds) ≡ in_turn w (take n (drop i ds)) + in_turn w (drop (i + n) ds)
+  next_part : (part rest' : List ℕ) → w ≤ 3 → rest ≡ part ++ rest' → length part ≡ min 1000 (length rest) → in_turn w rest ≡ in_turn w part + in_turn w rest'
   unfolding in_turn
-  next_part n h e =
-      let split : drop i ds ≡ take n (drop i ds) ++ drop (i + n) ds = sym (take-append-drop n (drop i ds)) ∙ ap (λ (x : List ℕ). take n (drop i ds) ++ x) (drop-drop n i ds) in
-      let long : length (take n (drop i ds)) ≡ n = length-take-le n (drop i ds) (omega (arith, length-drop i ds)) in
-      ap (in_turn w) split ∙ sum_append w (take n (drop i ds)) (drop (i + n) ds) ∙ ap (λ (k : ℕ). in_turn w (take n (drop i ds)) + k) (elim (dec_lt n 1000) [ yes l ↦ at_end_lem (omega arith) | no l ↦ rw (long, full (omega arith)) refl ])
+  next_part part rest' h e f =
+      let all : length rest ≡ length part + length rest' = ap length e ∙ length-append part rest' in
+      ap (in_turn w) e
+      ∙ sum_append w part rest'
+      ∙ ap (λ (k : ℕ). in_turn w part + k) (elim (dec_lt (length rest) 1000) [ yes few ↦ rw (nil_from_length rest' (omega arith)) refl | no more ↦ rw (full (omega arith)) refl ])
     where
-      full : n ≡ 1000 → weight_at w n ≡ w
-      full e = rw e (weight_even w 500 (omega arith))
+      full : length part ≡ 1000 → weight_at w (length part) ≡ w
+      full k = rw k (weight_even w 500 (omega arith))
 
-      at_end_lem : length ds ≤ i + n → in_turn (weight_at w (length (take n (drop i ds)))) (drop (i + n) ds) ≡ in_turn w (drop (i + n) ds)
-      at_end_lem l = rw (drop_of_length-le ds {i = i + n} l) refl
+  pub parting_turn : (part rest' : List ℕ) (r : ℕ) → w ≤ 3 → rest ≡ part ++ rest' → length part ≡ min 1000 (length rest) → r ≡ in_turn w part → Parting ds w ((sum + r) % 10) rest'
+  parting_turn part rest' r h e f q = record { last = omega arith; left = omega (arith, p.left, next_part part rest' h e f) }
 
-  pub parting_turn : (n m r : ℕ) → w ≤ 3 → n ≡ min (length ds - i) 1000 → m ≡ n → r ≡ in_turn w (take m (drop i ds)) → Parting ds w ((sum + r) % 10) (i + n)
-  parting_turn n m r h e f q = let part = rw f at q in record { within = omega (arith, p.within); last = omega arith; left = omega (arith, p.left, next_part n h e) }
-
-  pub parting_end : length ds ≤ i → sum ≡ in_turn w ds % 10
+  pub parting_end : length rest ≡ 0 → sum ≡ in_turn w ds % 10
   unfolding in_turn
-  parting_end h =
-      let none : in_turn w (drop i ds) ≡ 0 = rw (drop_of_length-le ds h) refl in
+  parting_end e =
+      let none : in_turn w rest ≡ 0 = rw (nil_from_length rest e) refl in
       omega (arith, p.left, p.last, none)
 
 -- ---- one digit

@@ -7,8 +7,8 @@ use native.Mathlib.Nat.{add-zero, add-suc, suc-add, zero-add}
 use native.Mathlib.Numerals.{add-one}
 use native.Mathlib.Omega.{arith}
 use native.Mathlib.Decide.{dec_le}
-use lib.ListN.{length, get_or, set, take, drop, length-set, drop_of_length-le}
-use lib.Seq.{sets, sets-eq, length-sets, drop-cons, take_at, set_out}
+use lib.ListN.{length, get_or, set, take, drop, length-set, drop_of_length-le, take-append-drop}
+use lib.Seq.{sets, sets-eq, length-sets, drop-cons, take_at, set_out, length-take-le}
 
 -- a run of stores is one run after another
 pub sets_append : (a b l : List ℕ) (i : ℕ) → sets l i (a ++ b) ≡ sets (sets l i a) (i + length a) b
@@ -79,3 +79,15 @@ sets_front l vs h = sets-eq vs l 0 (rw (zero-add (length vs)) h) ∙ ap (λ (k :
 -- what was stored into the front is what stands there
 pub sets_prefix : (l vs : List ℕ) (n : ℕ) → n ≡ length vs → length vs ≤ length l → take n (sets l 0 vs) ≡ vs
 sets_prefix l vs n e h = rw (sets_front l vs h) (take_at vs (drop (length vs) l) n (sym e))
+
+-- a run of stores from place 0 on: as much as both lists have, and what the list had behind it
+pub sets_short : (s l : List ℕ) (n : ℕ) → n ≡ min (length l) (length s) → sets l 0 s ≡ take n s ++ drop n l
+sets_short s l n e =
+    ap (sets l 0) (sym (take-append-drop n s))
+    ∙ sets_append (take n s) (drop n s) l 0
+    ∙ elim (dec_le (length s) n) [ yes all ↦ ap (sets (sets l 0 (take n s)) (0 + length (take n s))) (drop_of_length-le s all) | no less ↦ sets_out (drop n s) _ _ (omega (arith, length-sets l 0 (take n s), long)) ]
+    ∙ sets-eq (take n s) l 0 (omega (arith, long))
+    ∙ ap (λ (k : ℕ). take n s ++ drop k l) (zero-add _ ∙ long)
+  where
+    long : length (take n s) ≡ n
+    long = length-take-le n s (omega arith)

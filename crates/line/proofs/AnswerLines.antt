@@ -10,9 +10,9 @@ use lib.ListN.{length, take, drop, length-append}
 use lib.Seq.{take_at, append_snoc}
 use Rattle.helpers.specs.Answers.{Each, Answer, refuse, accept, number, second, after, Gave}
 use Rattle.helpers.specs.declared.Refusal.{Refusal}
-use Rattle.helpers.specs.declared.Answer as Code
-use Rattle.helpers.specs.declared.Answer.TheVariants.{Done, Refused}
-use Rattle.helpers.specs.Numbers.{number_of, second_of}
+use Rattle.std.specs.Prelude.{Ok, Err}
+use Rattle.helpers.specs.Numbers.{refusal_number, number_of, second_of}
+use Rattle.helpers.specs.Terms.{Stored}
 use Rattle.helpers.proofs.Answers.{answer_determined}
 use Rattle.paper.specs.Jobs.{encode, row_length, most}
 use Rattle.line.specs.Line.{code_points, other_form, content_of, decimal, answer_line, content_line, line_out}
@@ -28,6 +28,10 @@ two_numbers num sec = decimal num ++ (32 ∷ decimal sec)
 -- numbers of at most four digits fit nine bytes
 pub numbers_short : (num sec : ℕ) → num < 10000 → sec < 10000 → length (two_numbers num sec) ≤ 9
 numbers_short num sec h l = omega (arith, length-append (decimal num) (32 ∷ decimal sec), decimal_few 3 num h, decimal_few 3 sec l)
+
+-- and end by place 9
+pub numbers_end : {num sec : ℕ} {out out' : List ℕ} {r : ℕ} → Stored (two_numbers num sec) out 0 out' r → num < 10000 → sec < 10000 → r ≤ 9
+numbers_end {num} {sec} p h l = omega (arith, p.next, numbers_short num sec h l)
 
 -- a line from its head: a refusal has no cells
 pub line_refused : (num sec : ℕ) {head : List ℕ} → head ≡ two_numbers num sec → head ++ [] ++ (10 ∷ []) ≡ answer_line (refuse num sec) ++ (10 ∷ [])
@@ -47,12 +51,12 @@ gave_low top (refuse k m) low h g = (omega (arith, g.gave_number), omega (arith,
 gave_low top (accept n r) low h g = (omega (arith, g.gave_number), omega (arith, g.gave_second))
 
 -- no refusal has the number 0
-pub refused_number : (v : Code.Answer) {r : Refusal} {k : ℕ} → v ≡ Refused r k → 1 ≤ number_of v
+pub refused_number : (r : Refusal) → 1 ≤ refusal_number r
 unfolding number_of second_of
-refused_number v {r} {k} e = elim (dec_lt 0 (number_of v)) [ yes h ↦ h | no h ↦ absurd (never v e (answer_determined v (Done (second_of v)) (omega arith) refl)) ]
+refused_number r = elim (dec_lt 0 (refusal_number r)) [ yes h ↦ h | no h ↦ absurd (never (answer_determined (Err r) (Ok (second_of (Err r))) (omega arith) refl)) ]
   where
-    never : (v : Code.Answer) {n : ℕ} → v ≡ Refused r k → v ≡ Done n → ⊥
-    never v e f = let z : ◌≡◌ {A = ℕ} 0 1 = cc in omega arith
+    never : {n : ℕ} → Err r ≡ Ok n → ⊥
+    never e = let z : ◌≡◌ {A = ℕ} 0 1 = cc in omega arith
 
 pub gave_refusal : (a : Answer) {num sec : ℕ} {buf row : List ℕ} → 1 ≤ num → Gave a num sec buf row → a ≡ refuse num sec
 unfolding number second

@@ -9,15 +9,12 @@ use native.Mathlib.Numerals.{add-one}
 use native.Mathlib.Omega.{arith}
 use borrow.Author.Tests.{leb-true, le-leb, lt-leb}
 use lib.Dec.{leb, ltb, eqb}
-use lib.ListN.{length, get_or, set, take, drop, drop_of_length-le, length-set}
+use lib.ListN.{length, get_or, set, take, drop, drop_of_length-le, length-set, length-take}
 use lib.Seq.{drop-cons, take-suc-set}
 use Rattle.std.specs.Prelude.{if◌then◌else◌}
 use Rattle.helpers.proofs.Ahead.{ahead, ahead_one, ahead_stays, ahead_all}
 use Rattle.helpers.proofs.Answering.{and_true}
-use Rattle.line.specs.Line.{Kind, hex, blank, neither, kind_of, Effect, goes_on, point_ends, misplaced, effect, Content, code_points, other_form, with_point, comes_of, content_from, line_limit, content_of}
-use Rattle.line.specs.Form.{Formed}
-use Rattle.line.specs.declared.form.Form as Code
-use Rattle.line.specs.declared.form.Form.TheVariants.{Points, Other}
+use Rattle.line.specs.Line.{Kind, hex, blank, neither, kind_of, Effect, goes_on, point_ends, misplaced, effect, code_points, other_form, with_point, comes_of, content_from, line_limit, content_of}
 
 -- ---- one byte
 
@@ -82,10 +79,10 @@ unfolding content_of line_limit
 form_whole [] l h = absurd (omega arith)
 form_whole (c ∷ cs) l h = rw (le-leb (length (c ∷ cs)) 4096 h)
 
-pub form_empty : (line : List ℕ) → length line < 1 → (t : List ℕ) → Formed (Points 0) (content_of line) t
-unfolding content_of Formed
-form_empty [] h t = (refl, omega arith)
-form_empty (c ∷ cs) h t = absurd (omega arith)
+pub form_empty : (line : List ℕ) → length line < 1 → content_of line ≡ code_points []
+unfolding content_of
+form_empty [] h = refl
+form_empty (c ∷ cs) h = absurd (omega arith)
 
 -- A loop that has come to place i of a line, with k digits of value v read of a number and n
 -- numbers stored before it.
@@ -138,27 +135,18 @@ module _ {line text₀ text : List ℕ} {k v n i : ℕ} (p : Forming line text�
         rest = p.rest ∙ rw (form_turn k v line i h, e, add-one i, add-one n, take-suc-set text n v place, ahead_one) refl;
       }
 
-  pub forming_wrong : i < length line → effect k v (kind_of (get_or line i 0)) ≡ misplaced → (t : List ℕ) → Formed Other (content_of line) t
-  unfolding comes_of Formed
-  forming_wrong h e t = p.rest ∙ rw (form_turn k v line i h, e) (points_other (take n text))
+  pub forming_wrong : i < length line → effect k v (kind_of (get_or line i 0)) ≡ misplaced → content_of line ≡ other_form
+  unfolding comes_of
+  forming_wrong h e = p.rest ∙ rw (form_turn k v line i h, e) (points_other (take n text))
 
-  pub forming_none : length line ≤ i → k < 1 → (t : List ℕ) → Formed Other (content_of line) t
-  unfolding content_from Formed
-  forming_none h l t = p.rest ∙ rw (drop_of_length-le line h, lt-leb 1 k l) (points_other (take n text))
+  pub forming_none : length line ≤ i → k < 1 → content_of line ≡ other_form
+  unfolding content_from
+  forming_none h l = p.rest ∙ rw (drop_of_length-le line h, lt-leb 1 k l) (points_other (take n text))
 
-  pub forming_end : length line ≤ i → 1 ≤ k → Formed (Points (n + 1)) (content_of line) (set text n v)
-  unfolding content_from Formed with_point
+  pub forming_end : length line ≤ i → 1 ≤ k → (content_of line ≡ code_points (take (n + 1) (set text n v))) × (length (take (n + 1) (set text n v)) ≤ 2048)
+  unfolding content_from with_point
   forming_end h l =
       let place : n < length text = omega (arith, p.few, p.within, p.short, p.enough) in (
         p.rest ∙ rw (drop_of_length-le line h, le-leb 1 k l, add-one n, take-suc-set text n v place) (sym (ahead_one with_point (take n text) v (code_points [])) ∙ points_all (take n text ++ (v ∷ []))),
-        omega (arith, length-set text n v),
+        simp (length-take, length-set) (omega (arith, p.few, p.within, p.short)),
       )
-
--- what `code_points` returned, by cases
-pub formed_points : (r : Code.Form) (f : Content) (t : List ℕ) {n : ℕ} → r ≡ Points n → Formed r f t → (f ≡ code_points (take n t)) × (n ≤ length t)
-unfolding Formed
-formed_points r f t e p = rw e at p
-
-pub formed_other : (r : Code.Form) (f : Content) (t : List ℕ) → r ≡ Other → Formed r f t → f ≡ other_form
-unfolding Formed
-formed_other r f t e p = rw e at p

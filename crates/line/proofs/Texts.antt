@@ -1,45 +1,23 @@
--- Texts in a buffer: digits and cells stored one after the other, and a text written to the front
--- where it fits.
+-- A text in a buffer: nothing stored, and a text written to the front where it fits.
 -- Assumes nothing.
-use Prim.Native.Nat.{ℕ, zero, suc, ◌+◌, ◌/◌, ◌%◌, ◌<◌, ◌≤◌}
-use mathlib.Core.Path.{◌≡◌, refl, sym, ap, ◌∙◌}
+use Prim.Native.Nat.{ℕ, ◌<◌, ◌≤◌}
+use mathlib.Core.Path.{◌≡◌, refl, sym, ◌∙◌}
 use mathlib.Core.Bool.{Bool, true, false}
-use mathlib.Core.List.{List, [], ◌∷◌, ◌++◌, map}
+use mathlib.Core.List.{List, [], ◌++◌}
 use native.Mathlib.Nat.{zero-add}
 use native.Mathlib.Omega.{arith}
 use borrow.Author.Tests.{leb-true, leb-false, le-leb, lt-leb}
 use lib.Dec.{leb}
-use lib.ListN.{length, get_or, set, drop, length-append}
+use lib.ListN.{length, drop}
 use lib.Seq.{sets}
 use Rattle.std.specs.Prelude.{if◌then◌else◌}
-use Rattle.helpers.proofs.Gives.{stored_one, stored_then}
 use Rattle.helpers.proofs.Writes.{sets_front}
-use Rattle.line.specs.Line.{decimal}
 use Rattle.line.specs.Line.{fitting, Wrote}
 use Rattle.helpers.specs.Terms.{Stored}
-use Rattle.line.proofs.Decimals.{decimal_last, decimal_next}
 
--- ---- decimal digits
-
--- the digits of a number: those of all but the last, and the last
-pub digit_last : {out : List ℕ} {at n : ℕ} → n < 10 → Stored (decimal n) out at (set out at (48 + n)) (at + 1)
-digit_last {n} h = rw (decimal_last n h) stored_one
-
-pub digit_next : {out out' : List ℕ} {at n k : ℕ} → 10 ≤ n → Stored (decimal (n / 10)) out at out' k → Stored (decimal n) out at (set out' k (48 + n % 10)) (k + 1)
-digit_next {n} h p = rw (decimal_next n h) (stored_then p stored_one)
-
-pub digits_more : (n : ℕ) → 10 ≤ n → length (decimal n) ≡ length (decimal (n / 10)) + 1
-digits_more n h = ap length (decimal_next n h) ∙ length-append (decimal (n / 10)) ((48 + n % 10) ∷ [])
-
-pub digits_some : (n : ℕ) → n < 10 → length (decimal n) ≡ 1
-digits_some n h = ap length (decimal_last n h)
-
--- ---- cells as digits
-
-pub map_at : (f : ℕ → ℕ) (l : List ℕ) (j : ℕ) → j < length l → f (get_or l j 0) ≡ get_or (map f l) j 0
-map_at f [] j h = absurd (omega arith)
-map_at f (x ∷ l) zero h = refl
-map_at f (x ∷ l) (suc j) h = map_at f l j (omega arith)
+-- nothing stored
+pub stored_none : {out : List ℕ} {at : ℕ} → Stored [] out at out at
+stored_none = record { stored = refl; next = omega arith }
 
 -- ---- where it fits
 

@@ -4,6 +4,7 @@ ghost use Rattle.line.specs.Line.{kind_of, effect, content_of};
 ghost use Rattle.line.specs.Form.{as_kind, as_effect, Formed};
 
 // What a byte is in a line: an upper-case hex digit, the blank between two numbers, or neither.
+// Stays: with an Option for `Neither` the same arms stand below, with `Some` and `?` added.
 #[derive(Clone, Copy)]
 enum Kind {
     Hex(u8),
@@ -11,22 +12,23 @@ enum Kind {
     Neither,
 }
 
-// What the next byte does to a number: it goes on with it, ends it, or may not stand there.
-#[derive(Clone, Copy)]
-enum Effect {
-    GoesOn(u8, u32),
-    PointEnds,
-    Misplaced,
+// A number as far as it is read: how many digits, and their value.
+#[derive(Clone, Copy, Default)]
+struct Number {
+    digits: u8,
+    value: u32,
 }
 
-// How many code points a line has, or a line of another form.
+// What the next byte does to a number: it goes on with it, or ends it.
 #[derive(Clone, Copy)]
-pub enum Form {
-    Points(usize),
-    Other,
+enum Effect {
+    GoesOn(Number),
+    PointEnds,
 }
 
 // What a byte is: the one place that knows the digits.
+// Stays: `to_digit(16)` takes a to f too, which are no digits here.
+#[tactic(auto, unfolding(crate::specs::Line::kind_of))]
 fn kind_of(b: u8) -> Kind
     ensures { as_kind result ≡ kind_of b }
 {
@@ -38,70 +40,60 @@ fn kind_of(b: u8) -> Kind
     }
 }
 
-// What the byte `b` does where `k` digits of a number are read, `v` their value.
-fn read_byte(k: u8, v: u32, b: u8) -> Effect
-    requires { v < 16 ^ k }
-    ensures { as_effect result ≡ effect k v (kind_of b) }
-{
-    match kind_of(b) {
-        Kind::Hex(d) => {
-            if k < 6 {
-                return Effect::GoesOn(k + 1, 16 * v + (d as u32));
-            }
-            Effect::Misplaced
+impl Number {
+    // What the byte `b` does after these digits; none where it may not stand there.
+    #[tactic(auto, unfolding(crate::specs::Line::effect))]
+    fn read_byte(self, b: u8) -> Option<Effect>
+        requires { self.value < 16 ^ self.digits }
+        ensures { as_effect result ≡ effect self.digits self.value (kind_of b) }
+    {
+        match kind_of(b) {
+            Kind::Hex(d) if self.digits < 6 => Some(Effect::GoesOn(Number {
+                digits: self.digits + 1,
+                value: 16 * self.value + u32::from(d),
+            })),
+            Kind::Blank if 0 < self.digits => Some(Effect::PointEnds),
+            _ => None,
         }
-        Kind::Blank => {
-            if 0 < k {
-                return Effect::PointEnds;
-            }
-            Effect::Misplaced
-        }
-        Kind::Neither => Effect::Misplaced,
     }
 }
 
-// The code points of a line that has bytes, and not too many, stored from the front of `text`.
-fn read_points(line: &[u8], text: &mut [u32]) -> Form
+// The code points of a line that has bytes, and not too many, stored in `text`; none for a line of
+// another form.
+fn read_points<'a>(line: &[u8], text: &'a mut [u32]) -> Option<&'a [u32]>
     requires { (1 ≤ length line.now) × (length line.now ≤ 4096) × (2048 ≤ length text.old) }
-    ensures { Formed result (content_of line.now) text.new }
+    ensures { Formed result (content_of line.now) }
 {
-    let mut k: u8 = 0;
-    let mut v: u32 = 0;
-    let mut n: usize = 0;
-    let mut i: usize = 0;
-    while i < line.len() {
-        match read_byte(k, v, line[i]) {
-            Effect::GoesOn(digits, value) => {
-                k = digits;
-                v = value;
-            }
+    let mut number = Number::default();
+    let mut n = 0;
+    for b in line {
+        match number.read_byte(*b)? {
+            Effect::GoesOn(more) => number = more,
             Effect::PointEnds => {
-                text[n] = v;
+                text[n] = number.value;
                 n += 1;
-                k = 0;
-                v = 0;
-            }
-            Effect::Misplaced => {
-                return Form::Other;
+                number = Number::default();
             }
         }
-        i += 1;
     }
-    if k < 1 {
-        return Form::Other;
+    if 0 < number.digits {
+        text[n] = number.value;
+        Some(&text[..=n])
+    } else {
+        None
     }
-    text[n] = v;
-    Form::Points(n + 1)
 }
 
-// The form of a line, by its length first. A line of 4,096 bytes has at most 2,048 code points.
-pub(crate) fn code_points(line: &[u8], text: &mut [u32]) -> Form
+// A line's code points, stored in `text`, by its length first; none for a line of another form. A
+// line of 4,096 bytes has at most 2,048 code points.
+#[tactic(auto, using(crate::proofs::Forms::form_empty, crate::proofs::Cut::long_other))]
+pub(crate) fn code_points<'a>(line: &[u8], text: &'a mut [u32]) -> Option<&'a [u32]>
     requires { 2048 ≤ length text.old }
-    ensures { Formed result (content_of line.now) text.new }
+    ensures { Formed result (content_of line.now) }
 {
     match line.len() {
-        0 => Form::Points(0),
+        0 => Some(&[]),
         1..=4096 => read_points(line, text),
-        _ => Form::Other,
+        _ => None,
     }
 }

@@ -4,9 +4,8 @@ use Prim.Native.Nat.{ℕ, ◌+◌, ◌-◌, ◌*◌, ◌<◌, ◌≤◌, min}
 use mathlib.Core.Path.{◌≡◌, refl, sym, ap, ◌∙◌}
 use mathlib.Core.Logic.{◌≢◌, ◌⊎◌, inl, inr}
 use mathlib.Core.List.{List, [], ◌∷◌, ◌++◌, append-nil}
-use native.Mathlib.Nat.{sub-zero}
 use native.Mathlib.Omega.{arith}
-use lib.ListN.{length, get_or, take, length-append}
+use lib.ListN.{length, get_or, take, length-take, length-append}
 use lib.Seq.{length-sets}
 use borrow.Rule.Slice.PartMut.{mid_of, put_mid, mid_len}
 use Rattle.helpers.specs.Terms.{Stored}
@@ -19,7 +18,7 @@ use Rattle.lines.specs.Given.{Holds, Fed, Feeds, Finishes}
 use Rattle.lines.specs.declared.Finished.TheVariants.{NoLine, NoRoom, Line}
 use Rattle.lines.specs.Lines.{newlines}
 use Rattle.lines.proofs.Newlines.{no_bytes, newlines_append, line_one}
-use Rattle.lines.proofs.Splits.{holds_count, holds_cut, holds_line, fed_then, fed_newline}
+use Rattle.lines.proofs.Splits.{holds_cut, holds_line, fed_then, fed_newline}
 
 -- ---- an answer in the part of the output from place u on
 
@@ -69,9 +68,6 @@ before : (k : ℕ) → k + 1 - 1 ≡ k
 before k = omega arith
 
 module _ {chunk line out line' out' : List ℕ} {at len used i n u lines : ℕ} (p : Feeding chunk at line len out used i line' n out' u lines) where
-  stands : ((i ≡ at) × (line' ≡ line) × (n ≡ min len 4097)) ⊎ (((at < i) × (get_or chunk (i - 1) 0 ≡ 10) × (n ≡ 0)) ⊎ ((length chunk ≤ i) × (u + 22560 ≤ length out)))
-  stands = elim p.whole [ inl w ↦ inl w | inr w ↦ inr (inl w) ]
-
   -- to a newline, and what the line gives
   pub feeding_turn : {line'' out'' : List ℕ} {k m v : ℕ} → u + 22560 ≤ length out' → Fed chunk i line' n [] k line'' m → k < length chunk → get_or chunk k 0 ≡ 10
       → Stored (line_out (take m line'')) out' u out'' v → Feeding chunk at line len out used (k + 1) line'' 0 out'' v (lines + 1)
@@ -105,58 +101,32 @@ module _ {chunk line out line' out' : List ℕ} {at len used i n u lines : ℕ} 
         feeds_sure = p.sure;
       }
 
-  pub feeding_done : length chunk ≤ i → Feeds chunk at line len out used i line' n out' u lines
-  feeding_done h =
-      record {
-        feeds_text = p.text;
-        feeds_fed = p.fed;
-        feeds_stored = p.stores;
-        feeds_lines = p.counts;
-        feeds_room = p.fits;
-        feeds_on = λ l r. omega arith;
-        feeds_stop = λ l. absurd (omega arith);
-        feeds_where = stands;
-        feeds_sure = p.sure;
-      }
-
-  -- no room for one more
-  pub feeding_full : length out' < u + 22560 → Feeds chunk at line len out used i line' n out' u lines
-  feeding_full h =
-      record {
-        feeds_text = p.text;
-        feeds_fed = p.fed;
-        feeds_stored = p.stores;
-        feeds_lines = p.counts;
-        feeds_room = p.fits;
-        feeds_on = λ l r. omega (arith, p.stores.next, p.most, p.long);
-        feeds_stop = λ l. omega (arith, p.long);
-        feeds_where = stands;
-        feeds_sure = p.sure;
-      }
-
 -- ---- the input's end
 
--- a line is empty where nothing of it is held
-none_held : {cur line : List ℕ} {len n : ℕ} → n ≡ min len 4097 → n < 1 → Holds cur line len → cur ≡ []
-none_held {cur = []} e h p = refl
-none_held {cur = c ∷ cs} e h p = absurd (omega (arith, holds_count (holds_cut e p) (omega arith)))
+-- what is held of a line, as the code has it: nothing where the line has no byte
+module _ {cur line held : List ℕ} {len : ℕ} (e : held ≡ take len line) (p : Holds cur line len) where
+  none_held : length held < 1 → cur ≡ []
+  none_held h = nothing cur (omega (arith, ap length e, ap length p.holds_bytes, length-take 4097 cur))
+    where
+      nothing : (xs : List ℕ) → length xs ≡ 0 → xs ≡ []
+      nothing [] k = refl
+      nothing (x ∷ xs) k = absurd (omega arith)
 
-some_held : {cur line : List ℕ} {len n : ℕ} → n ≡ min len 4097 → 1 ≤ n → Holds cur line len → cur ≢ []
-some_held e h p z = omega (arith, holds_count (holds_cut e p) (omega arith), ap (λ (x : List ℕ). length (take 4097 x)) z)
+  some_held : 1 ≤ length held → cur ≢ []
+  some_held h z = omega (arith, ap length e, ap length p.holds_bytes, ap (λ (x : List ℕ). length (take 4097 x)) z)
 
-pub finish_none : {cur line : List ℕ} {len n : ℕ} (buf : List ℕ) → n ≡ min len 4097 → n < 1 → Holds cur line len → Finishes NoLine cur buf buf
-unfolding Finishes
-finish_none buf e h p = (none_held e h p, refl)
-
--- the part of the buffer from 0 to n has n - 0 bytes
-module _ {cur line buf out : List ℕ} {len n r : ℕ} (e : n ≡ min len 4097) (h : 1 ≤ n) (w : Wrote (line_out (take (n - 0) line)) r buf out) (p : Holds cur line len) where
-  wrote_line : Wrote (line_out cur) r buf out
-  wrote_line = rw (ap (λ (k : ℕ). line_out (take k line)) (sub-zero n) ∙ holds_line (holds_cut e p)) at w
-
-  pub finish_room : r < 1 → Finishes NoRoom cur buf out
+  pub finish_none : (buf : List ℕ) → length held < 1 → Finishes NoLine cur buf buf
   unfolding Finishes
-  finish_room l = let s = wrote_short wrote_line (line_some cur) l in (some_held e h p, s.0, s.1)
+  finish_none buf h = (none_held h, refl)
 
-  pub finish_line : 1 ≤ r → Finishes (Line r) cur buf out
-  unfolding Finishes
-  finish_line l = let s = wrote_whole wrote_line l in (some_held e h p, s.0, s.1)
+  module _ {buf out : List ℕ} {r : ℕ} (h : 1 ≤ length held) (w : Wrote (line_out held) r buf out) where
+    wrote_line : Wrote (line_out cur) r buf out
+    wrote_line = rw (ap line_out e ∙ holds_line p) at w
+
+    pub finish_room : r < 1 → Finishes NoRoom cur buf out
+    unfolding Finishes
+    finish_room l = let s = wrote_short wrote_line (line_some cur) l in (some_held h, s.0, s.1)
+
+    pub finish_line : 1 ≤ r → Finishes (Line r) cur buf out
+    unfolding Finishes
+    finish_line l = let s = wrote_whole wrote_line l in (some_held h, s.0, s.1)

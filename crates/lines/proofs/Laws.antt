@@ -12,6 +12,7 @@ use Rattle.lines.specs.Lines.{at_end, output_from, output, output_cut, newlines,
 use Rattle.lines.specs.Run.{joined, last_of}
 use Rattle.lines.specs.Laws.{with_newline, Laws}
 use Rattle.lines.proofs.Newlines.{newlines_append, content_none, line_one}
+use Rattle.lines.proofs.Splits.{line_from}
 use Rattle.lines.proofs.Runs.{at_end_lem, at_fault, run_whole, run_part}
 
 -- ---- the first of some lines
@@ -118,16 +119,6 @@ one_from cur (c ∷ cs) byte = by (eqb c 10) (λ line. one_from line cs byte)
 
 -- ---- a line's own bytes
 
-line_from : (last : List ℕ → List ℕ) (cur line y : List ℕ) → newlines line ≡ 0 → output_from last cur (line ++ y) ≡ output_from last (cur ++ line) y
-unfolding output_from newlines
-line_from last cur [] y h = ap (λ (x : List ℕ). output_from last x y) (sym (append-nil cur))
-line_from last cur (c ∷ cs) y h = by (eqb c 10) h (line_from last (cur ++ (c ∷ [])) cs y)
-  where
-    by : (b : Bool) → (if b then suc (newlines cs) else newlines cs) ≡ 0 → (newlines cs ≡ 0 → output_from last (cur ++ (c ∷ [])) (cs ++ y) ≡ output_from last ((cur ++ (c ∷ [])) ++ cs) y)
-        → (elim b [ true ↦ line_out cur ++ output_from last [] (cs ++ y) | false ↦ output_from last (cur ++ (c ∷ [])) (cs ++ y) ]) ≡ output_from last (cur ++ (c ∷ cs)) y
-    by true k next = absurd (omega arith)
-    by false k next = next k ∙ ap (λ (x : List ℕ). output_from last x y) (append_assoc cur (c ∷ []) cs)
-
 own : (line : List ℕ) → newlines line ≡ 0 → output (with_newline line) ≡ line_out line
 unfolding output output_from at_end with_newline
 own line h = line_from at_end [] line (10 ∷ []) h ∙ append-nil (line_out line)
@@ -173,19 +164,13 @@ go_on_written input written lost e =
 
 -- ---- a line that was cut
 
-cut_none : (cur cut : List ℕ) → newlines cut ≡ 0 → output_from (λ line. []) cur cut ≡ []
-unfolding output_from newlines
-cut_none cur [] h = refl
-cut_none cur (c ∷ cs) h = by (eqb c 10) h (cut_none (cur ++ (c ∷ [])) cs)
-  where
-    by : (b : Bool) → (if b then suc (newlines cs) else newlines cs) ≡ 0 → (newlines cs ≡ 0 → output_from (λ line. []) (cur ++ (c ∷ [])) cs ≡ [])
-        → ◌≡◌ {A = List ℕ} (elim b [ true ↦ line_out cur ++ output_from (λ line. []) [] cs | false ↦ output_from (λ line. []) (cur ++ (c ∷ [])) cs ]) []
-    by true k next = absurd (omega arith)
-    by false k next = next k
+cut_none : (cut : List ℕ) → newlines cut ≡ 0 → output_from (λ line. []) [] cut ≡ []
+unfolding output_from
+cut_none cut h = ap (output_from (λ line. []) []) (sym (append-nil cut)) ∙ line_from (λ line. []) [] cut [] h
 
 cut_whole : (input cut : List ℕ) → newlines cut ≡ 0 → output_cut (with_newline input ++ cut) ≡ output (with_newline input)
 unfolding output_cut
-cut_whole input cut h = cut_after (λ line. []) input cut ∙ rw (cut_none [] cut h) (append-nil _)
+cut_whole input cut h = cut_after (λ line. []) input cut ∙ rw (cut_none cut h) (append-nil _)
 
 -- ---- all of them
 
@@ -203,7 +188,7 @@ laws =
       go_on = go_on_all;
       go_on_after = go_on_written;
       cut_line = cut_whole;
-      cut_first = λ cut h. cut_none [] cut h;
+      cut_first = λ cut h. cut_none cut h;
       run_ends = λ s l r. run_whole at_end_lem s l r;
       run_fails = λ s l r. run_whole at_fault s l r;
       run_stops = λ s l r. run_part s l r;

@@ -1,16 +1,20 @@
 -- How many newlines a text has: an answer has one, its last byte.
 -- Assumes nothing.
 use Prim.Native.Nat.{ℕ, zero, suc, ◌+◌, ◌%◌, ◌/◌, ◌<◌, ◌≤◌}
-use mathlib.Core.Path.{◌≡◌, refl, ◌∙◌}
+use mathlib.Core.Path.{◌≡◌, refl, sym, ap, ◌∙◌}
 use mathlib.Core.Bool.{Bool, true, false}
 use mathlib.Core.List.{List, [], ◌∷◌, ◌++◌, map}
-use native.Mathlib.Numerals.{add-one}
+use native.Mathlib.Numerals.{one-add}
 use native.Mathlib.Omega.{arith}
-use borrow.Author.Tests.{eq-eqb, ne_eqb}
+use borrow.Author.Tests.{ne_eqb}
 use lib.Dec.{ltb, eqb}
-use lib.ListN.{length, get_or, drop, drop_of_length-le}
-use lib.Seq.{drop-cons}
-use Rattle.std.specs.Prelude.{if◌then◌else◌}
+use lib.ListN.{length, get_or, take}
+use lib.Seq.{take_all}
+use Rattle.std.specs.Prelude.{if◌then◌else◌, cond, count_by, position, Some, None}
+use Rattle.std.specs.List.{position_or_len}
+use Rattle.std.proofs.lemmas.Bool.{ltb-false}
+use Rattle.std.proofs.lemmas.List.Sums.{fails_before_first}
+use Rattle.std.proofs.lemmas.List.Recursion.{is_count_by}
 use Rattle.helpers.specs.Answers.{Answer, refuse, accept}
 use Rattle.paper.specs.Jobs.{encode, row_length, most}
 use Rattle.line.specs.Line.{Content, code_points, other_form, content_of, decimal_below, decimal, answer_line, content_line, line_out}
@@ -18,17 +22,17 @@ use Rattle.lines.specs.Lines.{newlines}
 
 -- ---- counting
 
-pub newlines_end : (text : List ℕ) (i : ℕ) → length text ≤ i → newlines (drop i text) ≡ 0
+-- as the library counts
+pub newlines_count : (text : List ℕ) → newlines text ≡ count_by (λ c. eqb c 10) text
 unfolding newlines
-newlines_end text i h = rw (drop_of_length-le text h)
+newlines_count = is_count_by newlines (λ c. eqb c 10) refl (λ c cs. ap (λ (k : ℕ). cond (eqb c 10) k (newlines cs)) (sym (one-add (newlines cs))))
 
-pub newlines_newline : (text : List ℕ) (i : ℕ) → i < length text → get_or text i 0 ≡ 10 → newlines (drop i text) ≡ suc (newlines (drop (i + 1) text))
+-- none stands before the first
+pub newlines_before : (text : List ℕ) (n : ℕ) → ((k : ℕ) → k < n → eqb (get_or text k 0) 10 ≡ false) → newlines (take n text) ≡ 0
 unfolding newlines
-newlines_newline text i h e = rw (drop-cons text i 0 h, eq-eqb (get_or text i 0) 10 e, add-one i)
-
-pub newlines_byte : (text : List ℕ) (i : ℕ) → i < length text → (get_or text i 0 ≡ 10 → ⊥) → newlines (drop i text) ≡ newlines (drop (i + 1) text)
-unfolding newlines
-newlines_byte text i h e = rw (drop-cons text i 0 h, ne_eqb (get_or text i 0) 10 e, add-one i)
+newlines_before text zero f = refl
+newlines_before [] (suc n) f = refl
+newlines_before (c ∷ cs) (suc n) f = rw (f 0 (omega arith)) (newlines_before cs n (λ k h. f (suc k) (omega arith)))
 
 pub newlines_append : (x y : List ℕ) → newlines (x ++ y) ≡ newlines x + newlines y
 unfolding newlines
@@ -38,6 +42,16 @@ newlines_append (c ∷ cs) y = by (eqb c 10) (newlines_append cs y)
     by : (b : Bool) → newlines (cs ++ y) ≡ newlines cs + newlines y → (if b then suc (newlines (cs ++ y)) else newlines (cs ++ y)) ≡ (if b then suc (newlines cs) else newlines cs) + newlines y
     by true e = omega arith
     by false e = e
+
+pub newlines_none : (text : List ℕ) → position (λ c. eqb c 10) text ≡ None → newlines text ≡ 0
+newlines_none text = by (ltb (position_or_len (λ c. eqb c 10) text) (length text)) refl
+  where
+    by : (b : Bool) → ltb (position_or_len (λ c. eqb c 10) text) (length text) ≡ b → cond b (Some (position_or_len (λ c. eqb c 10) text)) None ≡ None → newlines text ≡ 0
+    by true k e = absurd (cc)
+    by false k e =
+        let h : length text ≤ position_or_len (λ c. eqb c 10) text = ltb-false _ _ k in
+        ap newlines (sym (take_all (length text) text (omega arith)))
+        ∙ newlines_before text (length text) (λ k l. fails_before_first (λ c. eqb c 10) text k 0 (omega arith))
 
 -- ---- an answer has one newline, its last byte
 

@@ -17,18 +17,27 @@ pub const LINE: usize = 4097;
 // No answer has more bytes.
 pub const ANSWER: usize = 22560;
 
-// Where the work on a chunk stands: the place in it, how much of the line's buffer is filled, and
-// how much of the output; and how many answers are new in that.
+// A line that is being read: its first bytes, and how many they are. A number past the buffer's end
+// is taken for its end.
+// Stays: no ghost field bounds `len`, since `feed` and `finish` may ask nothing of it.
+#[derive(Drop)]
+pub struct Line {
+    pub bytes: [u8; LINE],
+    pub len: usize,
+}
+
+// Where the work on a chunk stands: the place in it, how much of the output is filled, and how
+// many answers are new in that.
 #[derive(Clone, Copy)]
 pub struct Stand {
     pub at: usize,
-    pub len: usize,
     pub used: usize,
     pub new: usize,
 }
 
 // What the input's end gives: no line, an answer for which there is no room, or how many bytes the
 // answer has.
+// Stays: three cases, which an Option in a Result would give no names; `Finishes` goes by them.
 #[derive(Clone, Copy)]
 pub enum Finished {
     NoLine,
@@ -39,71 +48,54 @@ pub enum Finished {
 // Goes over the lines of a chunk and stores what they give into `out`, while it surely has room
 // for one more. It stops at the chunk's end, after a whole line or, where there is no room at
 // first, where it began.
-pub fn feed(
-    chunk: &[u8],
-    from: usize,
-    line: &mut [u8; LINE],
-    filled: usize,
-    out: &mut [u8],
-    stored: usize,
-) -> Stand
-    ensures { Feeds chunk.now from line.old filled out.old stored result.at line.new result.len out.new result.used result.new }
+// Stays: `Feeds` speaks of any place, one past the end too; a part would ask that the place is
+// within the slice.
+pub fn feed(chunk: &[u8], from: usize, line: &mut Line, out: &mut [u8], stored: usize) -> Stand
+    ensures { Feeds chunk.now from line.old.bytes line.old.len out.old stored result.at line.new.bytes line.new.len out.new result.used result.new }
 {
+    line.len = line.len.min(LINE);
     let mut at = from;
-    let mut len = helpers::shorter(filled, LINE);
     let mut used = stored;
-    let mut new: usize = 0;
-    while at < chunk.len() {
-        if out.len() < ANSWER {
-            return Stand { at, len, used, new };
-        }
-        if out.len() - ANSWER < used {
-            return Stand { at, len, used, new };
-        }
-        let place = split::gather(chunk, at, line, len);
-        at = place.at;
-        len = place.len;
-        if chunk.len() <= at {
-            return Stand { at, len, used, new };
-        }
-        let held = &line[..];
-        used += answer_line(&held[0..len], &mut out[used..]);
-        at += 1;
-        len = 0;
+    let mut new = 0;
+    // Stays: a turn passes a whole line, and `at` is a place that is given back, no count.
+    while at < chunk.len() && ANSWER <= out.len().saturating_sub(used) {
+        let Some(newline) = line.gather(chunk, at) else {
+            return Stand {
+                at: chunk.len(),
+                used,
+                new,
+            };
+        };
+        used += answer_line(line.as_slice(), &mut out[used..]);
+        line.len = 0;
+        at = newline + 1;
         new += 1;
     }
-    Stand { at, len, used, new }
+    Stand { at, used, new }
 }
 
 // What the last line gives where the input ends without a newline, at the front of `out`, where
 // it fits.
-pub fn finish(line: &[u8; LINE], len: usize, out: &mut [u8]) -> Finished
-    ensures by_index { (cur : List ℕ) → Holds cur line.now len → Finishes result cur out.old out.new }
+#[tactic(auto, using(line::proofs::Texts::wrote_within), unfolding(crate::specs::Given::bytes_of))]
+pub fn finish(line: &Line, out: &mut [u8]) -> Finished
+    ensures by_index { (cur : List ℕ) → Holds cur line.now.bytes line.now.len → Finishes result cur out.old out.new }
     ensures result_in_bounds { bytes_of result ≤ length out.old }
 {
-    let n = helpers::shorter(len, LINE);
-    if n < 1 {
-        return Finished::NoLine;
+    let held = line.as_slice();
+    if held.is_empty() {
+        Finished::NoLine
+    } else {
+        // Stays: the 0 of an answer that does not fit is a clause of answer_line.
+        match answer_line(held, out) {
+            0 => Finished::NoRoom,
+            written => Finished::Line(written),
+        }
     }
-    let held = &line[..];
-    let written = answer_line(&held[0..n], out);
-    if written < 1 {
-        return Finished::NoRoom;
-    }
-    Finished::Line(written)
 }
 
 // How many newlines there are: each ends an answer.
 pub fn count_lines(text: &[u8]) -> usize
     ensures { result ≡ newlines text.now }
 {
-    let mut n: usize = 0;
-    let mut i: usize = 0;
-    while i < text.len() {
-        if text[i] == b'\n' {
-            n += 1;
-        }
-        i += 1;
-    }
-    n
+    text.iter().filter(|b| **b == b'\n').count()
 }

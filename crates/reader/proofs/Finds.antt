@@ -5,37 +5,18 @@ use Prim.Native.Nat.{ℕ, zero, suc, ◌+◌, ◌-◌, ◌^◌, ◌/◌, ◌%◌
 use mathlib.Core.Path.{◌≡◌, refl, sym, ap, ◌∙◌}
 use mathlib.Core.Bool.{Bool, true, false, ◌&&◌}
 use mathlib.Core.List.{List, ◌∷◌}
-use native.Mathlib.Nat.{not-suc-le-zero, le_of_suc-le-suc, add-zero, sub-zero}
+use native.Mathlib.Nat.{not-suc-le-zero, le_of_suc-le-suc, sub-zero}
 use native.Mathlib.Numerals.{add-one}
 use native.Mathlib.Omega.{arith}
 use lib.Dec.{eqb}
-use lib.ListN.{length, get_or, take, drop, length-drop, drop_of_length-le}
-use lib.Seq.{drop-cons, length-take-le, get_or-take, get_or-drop}
+use lib.ListN.{length, get_or, drop, drop_of_length-le}
+use lib.Seq.{drop-cons}
 use borrow.Author.Tests.{eq-eqb, ne_eqb}
 use Rattle.helpers.specs.Answers.{same}
 use Rattle.paper.specs.Iso15417.{widths, pattern, is, worn_or_unknown, found_in, found}
 use Rattle.paper.proofs.Table.{found_none, no_bar}
 use Rattle.code128.specs.Words.{words, cells_of}
 use Rattle.code128.proofs.Words.{word_rule}
-
--- the eleven cells of a list from a place on
-abbrev pub part : List ℕ → ℕ → List ℕ
-part l a = take 11 (drop a l)
-
-module _ (l : List ℕ) (a : ℕ) where
-  pub part_length : a + 11 ≤ length l → length (part l a) ≡ 11
-  part_length h = length-take-le 11 (drop a l) (omega (arith, length-drop a l))
-
-  pub part_at : (j : ℕ) → j < 11 → get_or (part l a) j 0 ≡ get_or l (a + j) 0
-  part_at j h = get_or-take 11 (drop a l) j 0 h ∙ get_or-drop a l j 0
-
-  pub part_first : get_or (part l a) 0 0 ≡ get_or l a 0
-  part_first = rw (add-zero a) at (part_at 0 (omega arith))
-
--- a cell that is no space is a bar
-pub bar_cell : (c : ℕ) → c ≤ 1 → (c ≡ 0 → ⊥) → c ≡ 1
-bar_cell zero h n = absurd (n refl)
-bar_cell (suc c) h n = omega arith
 
 -- ---- the loop over the cells of one pattern
 
@@ -58,7 +39,6 @@ cells_on w j l = drop-cons (cells_of 11 w) j 0 (omega (arith, length_cells 11 w)
 -- A loop that compares the cells of a pattern's word p with those of a block's word b, and has come
 -- to cell j.
 pub record Matching (p b j : ℕ) : Type 0 where
-  pub within : j ≤ 11
   pub rest : same (cells_of 11 p) (cells_of 11 b) ≡ same (drop j (cells_of 11 p)) (drop j (cells_of 11 b))
 
 module _ {p b j : ℕ} (m : Matching p b j) (l : j < 11) where
@@ -68,7 +48,7 @@ module _ {p b j : ℕ} (m : Matching p b j) (l : j < 11) where
   on = m.rest ∙ rw (cells_on p j (omega arith), cells_on b j (omega arith)) refl
 
   pub match_turn : b / 2 ^ (10 - j) % 2 ≡ p / 2 ^ (10 - j) % 2 → Matching p b (j + 1)
-  match_turn e = record { within = omega arith; rest = on ∙ rw (eq-eqb _ _ (sym e)) refl }
+  match_turn e = record { rest = on ∙ rw (eq-eqb _ _ (sym e)) refl }
 
   pub match_not : (b / 2 ^ (10 - j) % 2 ≡ p / 2 ^ (10 - j) % 2 → ⊥) → same (cells_of 11 p) (cells_of 11 b) ≡ false
   match_not e = on ∙ rw (ne_eqb _ _ (λ q. e (sym q))) refl
@@ -84,54 +64,40 @@ all_widths : length widths ≡ 106
 unfolding widths
 all_widths = refl
 
--- A loop that has held a block against the first s patterns, and it was none of them; it begins
--- with a bar, as long as there are patterns left.
+-- A loop that has held a block against the first s patterns, and it was none of them.
 pub record Hunting (block : List ℕ) (s : ℕ) : Type 0 where
-  pub within : s ≤ 106
-  pub bar : s < 106 → get_or block 0 0 ≡ 1
   pub rest : found block ≡ found_in s (drop s widths) block
 
-pub hunt_begin : {block : List ℕ} → get_or block 0 0 ≡ 1 → Hunting block 0
+pub hunt_begin : (block : List ℕ) → Hunting block 0
 unfolding found
-hunt_begin e = record { within = omega arith; bar = λ h. e; rest = refl }
+hunt_begin block = record { rest = refl }
 
 -- a block that begins with a space is none of the patterns
-pub hunt_none : {block : List ℕ} → get_or block 0 0 ≡ 0 → Hunting block 106
-unfolding found_in
-hunt_none {block} e =
-    record {
-      within = omega arith;
-      bar = λ h. absurd (omega arith);
-      rest = found_none block (no_bar block e) ∙ rw (drop_of_length-le widths {i = 106} (omega (arith, all_widths))) refl;
-    }
+pub hunt_none : (block : List ℕ) → get_or block 0 0 ≡ 0 → found block ≡ worn_or_unknown block
+hunt_none block e = found_none block (no_bar block e)
 
 module _ {block : List ℕ} {s : ℕ} (p : Hunting block s) where
-  pub hunt_end : 106 ≤ s → worn_or_unknown block ≡ found block
+  pub hunt_end : 106 ≤ s → found block ≡ worn_or_unknown block
   unfolding found_in
-  hunt_end h = sym (p.rest ∙ rw (drop_of_length-le widths {i = s} (omega (arith, all_widths))) refl)
+  hunt_end h = p.rest ∙ rw (drop_of_length-le widths {i = s} (omega (arith, all_widths))) refl
 
   -- the word of the block, and the word at hand
   module _ (b : ℕ) {t : List ℕ} (v : cells_of 11 b ≡ block) (c : t ≡ words) (h : s < 106) where
     -- the first cells are both bars, and the loop over the cells begins at the next
-    pub hunt_match : Matching (get_or t s 0) b 1
-    hunt_match =
-        let first : Matching (get_or t s 0) b 0 = record { within = omega arith; rest = refl } in
+    pub hunt_match : get_or block 0 0 ≡ 1 → Matching (get_or t s 0) b 1
+    hunt_match bar =
+        let first : Matching (get_or t s 0) b 0 = record { rest = refl } in
         let top : (w : ℕ) → get_or (cells_of 11 w) 0 0 ≡ w / 2 ^ (10 - 0) % 2 = λ w. cell_of 10 w 0 (omega arith) in
         let bars : get_or (cells_of 11 (get_or t s 0)) 0 0 ≡ 1 = rw c (word_rule s h).of_rule.begins in
-        match_turn first (omega arith) (sym (top b) ∙ rw v (p.bar h) ∙ sym bars ∙ top (get_or t s 0))
+        match_turn first (omega arith) (sym (top b) ∙ rw v bar ∙ sym bars ∙ top (get_or t s 0))
 
     this : {x : Bool} → same (cells_of 11 (get_or t s 0)) (cells_of 11 b) ≡ x → same (pattern s) block ≡ x
     this e = rw (c, (word_rule s h).of_standard, v) at e
 
     pub hunt_turn : same (cells_of 11 (get_or t s 0)) (cells_of 11 b) ≡ false → Hunting block (s + 1)
     unfolding found_in pattern
-    hunt_turn e =
-        record {
-          within = omega arith;
-          bar = λ l. p.bar h;
-          rest = p.rest ∙ rw (add-one s, drop-cons widths s 0 (omega (arith, all_widths)), this e) refl;
-        }
+    hunt_turn e = record { rest = p.rest ∙ rw (add-one s, drop-cons widths s 0 (omega (arith, all_widths)), this e) refl }
 
-    pub hunt_hit : same (cells_of 11 (get_or t s 0)) (cells_of 11 b) ≡ true → is s ≡ found block
+    pub hunt_hit : same (cells_of 11 (get_or t s 0)) (cells_of 11 b) ≡ true → found block ≡ is s
     unfolding found_in pattern
-    hunt_hit e = sym (p.rest ∙ rw (drop-cons widths s 0 (omega (arith, all_widths)), this e) refl)
+    hunt_hit e = p.rest ∙ rw (drop-cons widths s 0 (omega (arith, all_widths)), this e) refl

@@ -15,10 +15,8 @@ use Rattle.helpers.specs.Answers.{Each}
 use Rattle.helpers.proofs.Answering.{each_at}
 use Rattle.paper.specs.Iso15417.{bar_cells, worn, unknown, worn_or_unknown}
 use Rattle.paper.proofs.Table.{odd_worn, even_unknown}
-use Rattle.paper.proofs.Bytes.{each_split}
 use Rattle.code128.specs.Words.{cells_of}
 use Rattle.reader.specs.Parts.{word_of}
-use Rattle.reader.proofs.Finds.{part, part_length, part_at}
 
 -- ---- the cells of a word
 
@@ -56,52 +54,40 @@ ones_word w (c ∷ cs) a = omega (arith, ones_word (w * 2 + c) cs a.1, ones_push
 
 -- the word of a block: its cells, and the count of ones, which decides what a block is that is no
 -- pattern
-module _ (row : List ℕ) (at : ℕ) (clean : Each (λ c. c ≤ 1) row) where
-  part_clean : Each (λ c. c ≤ 1) (part row at)
-  part_clean = (each_split (λ c. c ≤ 1) 11 (drop at row) (each_split (λ c. c ≤ 1) at row clean).1).0
+module _ (cs : List ℕ) (clean : Each (λ c. c ≤ 1) cs) where
+  pub word_cells : length cs ≡ 11 → cells_of 11 (word_of 0 cs) ≡ cs
+  word_cells h = rw h at (cells_after 0 cs clean)
 
-  pub word_cells : at + 11 ≤ length row → cells_of 11 (word_of 0 (part row at)) ≡ part row at
-  word_cells h = rw (part_length row at h) at (cells_after 0 (part row at) part_clean)
-
-  word_bars : ones (word_of 0 (part row at)) ≡ bar_cells (part row at)
+  word_bars : ones (word_of 0 cs) ≡ bar_cells cs
   unfolding ones
-  word_bars = ones_word 0 (part row at) part_clean ∙ zero-add (bar_cells (part row at))
+  word_bars = ones_word 0 cs clean ∙ zero-add (bar_cells cs)
 
-  pub word_odd : ones (word_of 0 (part row at)) % 2 ≡ 1 → worn ≡ worn_or_unknown (part row at)
-  word_odd h = sym (odd_worn (part row at) (omega (arith, word_bars)))
+  pub word_odd : ones (word_of 0 cs) % 2 ≡ 1 → worn_or_unknown cs ≡ worn
+  word_odd h = odd_worn cs (omega (arith, word_bars))
 
-  pub word_even : (ones (word_of 0 (part row at)) % 2 ≡ 1 → ⊥) → unknown ≡ worn_or_unknown (part row at)
-  word_even h = sym (even_unknown (part row at) (omega (arith, word_bars)))
+  pub word_even : (ones (word_of 0 cs) % 2 ≡ 1 → ⊥) → worn_or_unknown cs ≡ unknown
+  word_even h = even_unknown cs (omega (arith, word_bars))
 
 -- ---- the loop
 
--- A loop that makes the word of the eleven cells from `at` on, and has made w of the first j.
-pub record Wording (row : List ℕ) (at w j : ℕ) : Type 0 where
-  pub within : j ≤ 11
+-- A loop that makes the word of some cells, and has made w of the first j.
+pub record Wording (cs : List ℕ) (w j : ℕ) : Type 0 where
   pub small : w < 2 ^ j
   -- w and the cells that are left make the whole
-  pub left : word_of 0 (part row at) ≡ word_of w (drop j (part row at))
+  pub left : word_of 0 cs ≡ word_of w (drop j cs)
 
-pub wording_begin : {row : List ℕ} {at : ℕ} → Wording row at 0 0
-wording_begin = record { within = omega arith; small = omega arith; left = refl }
-
-module _ {row : List ℕ} {at w j : ℕ} (p : Wording row at w j) where
-  pub wording_end : at + 11 ≤ length row → 11 ≤ j → w ≡ word_of 0 (part row at)
+module _ {cs : List ℕ} {w j : ℕ} (p : Wording cs w j) where
+  pub wording_end : length cs ≤ j → w ≡ word_of 0 cs
   unfolding word_of
-  wording_end h l = sym (p.left ∙ rw (drop_of_length-le (part row at) {i = j} (omega (arith, part_length row at h))) refl)
+  wording_end l = sym (p.left ∙ rw (drop_of_length-le cs {i = j} l) refl)
 
   pub wording_fits : j < 11 → w < 1024
   wording_fits l = let top : 2 ^ j ≤ 2 ^ 10 = pow_mono {i = j} {j = 10} (omega arith) in omega (arith, p.small)
 
-  module _ (h : at + 11 ≤ length row) (clean : Each (λ c. c ≤ 1) row) (l : j < 11) where
-    pub wording_cell : get_or row (at + j) 0 ≤ 1
-    wording_cell = each_at (λ c. c ≤ 1) row (at + j) 0 clean (omega arith)
+  module _ (clean : Each (λ c. c ≤ 1) cs) (l : j < length cs) where
+    pub wording_cell : get_or cs j 0 ≤ 1
+    wording_cell = each_at (λ c. c ≤ 1) cs j 0 clean l
 
-    pub wording_turn : Wording row at (w * 2 + get_or row (at + j) 0) (j + 1)
+    pub wording_turn : Wording cs (w * 2 + get_or cs j 0) (j + 1)
     unfolding word_of
-    wording_turn =
-        record {
-          within = omega arith;
-          small = rw (add-one j, pow-suc 2 j) (omega (arith, p.small, wording_cell));
-          left = p.left ∙ rw (add-one j, drop-cons (part row at) j 0 (omega (arith, part_length row at h)), part_at row at j l) refl;
-        }
+    wording_turn = record { small = rw (add-one j, pow-suc 2 j) (omega (arith, p.small, wording_cell)); left = p.left ∙ rw (add-one j, drop-cons cs j 0 l) refl }

@@ -2,75 +2,56 @@
 // is answered as worn or as unknown.
 #![tactic(auto)]
 
-ghost use Rattle.std.specs.Prelude.{◌+◌, ◌*◌, ◌<◌, ◌≤◌, min, ◌≡◌, [], length, take, drop};
-ghost use Rattle.helpers.specs.Answers.{Each, accept, ◌then◌, Gave};
+ghost use Rattle.std.specs.Prelude.{◌+◌, ◌*◌, ◌<◌, ◌≤◌, min, ◌≡◌, length};
+ghost use Rattle.helpers.specs.Answers.{Each, Gave};
 ghost use Rattle.paper.specs.Iso15417.{found};
 ghost use Rattle.paper.specs.Jobs as Paper;
-ghost use Rattle.paper.specs.Jobs.{most, row_length, fits_at, blocks_from, wanted};
+ghost use Rattle.paper.specs.Jobs.{most, row_length, fits_at, blocks_from};
 ghost use Rattle.helpers.specs.Numbers.{number_of, second_of};
-ghost use Rattle.helpers.specs.Terms.{answers};
-ghost use Rattle.code128.specs.Words.{words};
-ghost use Rattle.reader.specs.Parts.{word_of, look_of, walk_of, stop_asked, check_asked, Judged};
+ghost use Rattle.reader.specs.Parts.{word_of, found_as, walk_of, tested, stop_asked, check_asked, Judged};
 
 use helpers::{Answer, Refusal};
 
-// What a block of eleven cells is: the pattern of a symbol, or none of the 106 patterns.
-#[derive(Drop)]
-enum Found {
-    Symbol(u8),
-    // None of the patterns, and an odd number of bar cells, as where one cell is worn.
-    Worn,
-    // None of the patterns, and an even number of bar cells.
-    Unknown,
-}
-
-// The eleven cells from place `at` on as one word, the first cell in the top bit, so that its ones
-// are the bar cells.
-fn word(row: &[u8], at: usize) -> u16
-    requires { (at + 11 ≤ length row.now) × Each (λ c. c ≤ 1) row.now }
-    ensures { result ≡ word_of 0 (take 11 (drop at row.now)) }
+// The cells of a block as one word, the first cell in the top bit, so that its ones are the bar
+// cells.
+// Stays: Each is asked of the row and of its blocks; a type would be made anew for each block.
+fn word(cells: &[u8]) -> u16
+    requires { (length cells.now ≤ 11) × Each (λ c. c ≤ 1) cells.now }
+    ensures { result ≡ word_of 0 cells.now }
 {
-    let mut w: u16 = 0;
-    let mut j: usize = 0;
-    while j < 11 {
-        w = w * 2 + row[at + j] as u16;
-        j += 1;
+    let mut w = 0;
+    for cell in cells {
+        w = w * 2 + u16::from(*cell);
     }
     w
 }
 
-// Looks up the eleven cells from place `at` on in the table, pattern by pattern and cell by cell, a
-// word's cells being its bits. Every pattern begins with a bar, so the first cell is asked once,
-// before the search: where it is a space, no pattern is left to search. If the cells are none of
-// the 106, the count of ones of their word decides between worn and unknown.
-fn find(row: &[u8], at: usize, table: &[u16]) -> Found
-    requires { (at + 11 ≤ length row.now) × Each (λ c. c ≤ 1) row.now × (table.now ≡ words) }
-    ensures { look_of result ≡ found (take 11 (drop at row.now)) }
+// Looks up block `b` in the table of patterns, pattern by pattern and cell by cell, a word's cells
+// being its bits. Every pattern begins with a bar, so the first cell is asked once, before the
+// search: where it is a space, no pattern is searched. If the cells are none of the 106, the count
+// of ones of their word decides between worn, 16, and unknown, 12.
+// Stays: docs/SCOPE.md names the form: two loops, one left by label, the symbol what `break` gives.
+fn find(cells: &[u8], b: usize) -> Result<u8, Refusal>
+    requires { (length cells.now ≡ 11) × Each (λ c. c ≤ 1) cells.now }
+    ensures { result ≡ found_as b (found cells.now) }
 {
-    let block = word(row, at);
-    let mut s: usize = 0;
-    if row[at] == 0 {
-        s = 106;
-    }
-    'search: loop {
-        if s == 106 {
-            if u16::count_ones(block) % 2 == 1 {
-                break 'search Found::Worn;
+    let block = word(cells);
+    'search: {
+        if cells[0] == 1 {
+            'patterns: for (s, &pattern) in code128::chars::WORDS.iter().enumerate() {
+                for j in 1..11u16 {
+                    if (block >> (10 - j)) % 2 != (pattern >> (10 - j)) % 2 {
+                        continue 'patterns;
+                    }
+                }
+                break 'search Ok(s as u8);
             }
-            break 'search Found::Unknown;
         }
-        let pattern = table[s];
-        let mut j: usize = 1;
-        'cells: loop {
-            if j == 11 {
-                break 'search Found::Symbol(s as u8);
-            }
-            if (block >> (10 - j)) % 2 != (pattern >> (10 - j)) % 2 {
-                break 'cells;
-            }
-            j += 1;
+        if block.count_ones() % 2 == 1 {
+            Err(Refusal::Worn(b))
+        } else {
+            Err(Refusal::Pattern(b))
         }
-        s += 1;
     }
 }
 
@@ -79,101 +60,72 @@ fn find(row: &[u8], at: usize, table: &[u16]) -> Found
 fn fits(b: usize, m: u8) -> bool
     ensures { result ≡ fits_at b m }
 {
-    match b {
-        0 => match m {
-            103..=105 => true,
-            _ => false,
-        },
-        _ => m <= 102,
+    if b == 0 {
+        matches!(m, 103..=105)
+    } else {
+        m <= 102
     }
 }
 
-// Looks up the first `count` blocks, each once, and stores their numbers; refuses 12, 16 or 13 at
-// the first wrong one.
-fn blocks(row: &[u8], count: usize, list: &mut [u8]) -> Answer
-    requires { (11 * count ≤ length row.now) × Each (λ c. c ≤ 1) row.now × (count ≤ length list.old) }
-    ensures { walk_of count result list.new ≡ blocks_from count 0 row.now }
+// Looks up the first blocks of the row, as many as the list is long, each once, and stores their
+// numbers; refuses 12, 16 or 13 at the first wrong one.
+fn blocks(row: &[u8], list: &mut [u8]) -> Result<(), Refusal>
+    requires { (11 * length list.old ≤ length row.now) × Each (λ c. c ≤ 1) row.now }
+    ensures { walk_of result list.new ≡ blocks_from (length list.old) 0 row.now }
 {
-    let words = code128::chars::words();
-    let mut b: usize = 0;
-    while b < count {
-        match find(row, 11 * b, &words) {
-            Found::Symbol(m) => {
-                if !fits(b, m) {
-                    return Answer::Refused(Refusal::Place, b);
-                }
-                list[b] = m;
-            }
-            Found::Worn => return Answer::Refused(Refusal::Worn, b),
-            Found::Unknown => return Answer::Refused(Refusal::Pattern, b),
+    for (b, slot) in list.iter_mut().enumerate() {
+        // Stays: the cut by index; `as_chunks` cuts the stop too, and `cells[b]` is by index still.
+        let m = find(&row[11 * b..11 * b + 11], b)?;
+        if !fits(b, m) {
+            return Err(Refusal::Place(b));
         }
-        b += 1;
+        *slot = m;
     }
-    Answer::Done(count)
-}
-
-// Holds the row from place `at` on against a part of the stop, and answers the place after it;
-// refuses 15 at the first wrong cell.
-fn stop_part(row: &[u8], at: usize, cells: &[u8]) -> Answer
-    requires { at + length cells.now ≤ length row.now }
-    ensures { answers result ≡ (wanted 15 at cells.now (drop at row.now) then accept (at + length cells.now) []) }
-{
-    let mut j: usize = 0;
-    while j < cells.len() {
-        if row[at + j] != cells[j] {
-            return Answer::Refused(Refusal::Stop, at + j);
-        }
-        j += 1;
-    }
-    Answer::Done(at + j)
+    Ok(())
 }
 
 // Holds the last 13 cells against the stop, the cells of `STOP` and of `TERM`: the row's length
-// says where it stands.
-fn stops(row: &[u8]) -> Answer
+// says where it stands. Refuses 15 at the first wrong cell.
+fn stops(row: &[u8]) -> Result<(), Refusal>
     requires { 13 ≤ length row.now }
-    ensures { answers result ≡ (stop_asked row.now then accept (length row.now) []) }
+    ensures { tested result ≡ stop_asked row.now }
 {
-    let so_far = stop_part(row, row.len() - 13, &code128::STOP);
-    let Answer::Done(next) = so_far else {
-        return so_far;
-    };
-    stop_part(row, next, &code128::TERM)
-}
-
-// Holds the number after the first `n` of the list against their check; refuses 14 with the right
-// one.
-fn checks(list: &[u8], n: usize) -> Answer
-    requires { (n < length list.now) × (n ≤ most) }
-    ensures { answers result ≡ (check_asked list.now n then accept n []) }
-{
-    let drawn = list[n];
-    let right = code128::checksum_value(&list[0..n]);
-    if drawn != right {
-        return Answer::Refused(Refusal::Check, right as usize);
+    let at = row.len() - 13;
+    let stop = code128::STOP.iter().chain(&code128::TERM);
+    match row[at..].iter().zip(stop).position(|(x, y)| x != y) {
+        Some(j) => Err(Refusal::Stop(at + j)),
+        None => Ok(()),
     }
-    Answer::Done(n)
 }
 
-// All tests of read but that of the room, in their order: 10, 11, 12 or 16 and 13, 15, 14. The
-// symbols go to the front of `list`, which has room for the blocks of the row, or of the longest.
-fn judge(row: &[u8], list: &mut [u8]) -> Answer
-    requires { min (length row.now) (row_length most) ≤ 11 * length list.old + 13 }
-    ensures { Judged row.now result list.new }
+// Holds a number against the check of the symbols before it; refuses 14 with the right one.
+fn checks(symbols: &[u8], drawn: u8) -> Result<(), Refusal>
+    requires { length symbols.now ≤ most }
+    ensures { tested result ≡ check_asked symbols.now drawn }
 {
-    let so_far = shapes::shape(row);
-    let Answer::Done(n) = so_far else {
-        return so_far;
-    };
-    let so_far = blocks(row, n + 1, list);
-    let Answer::Done(_) = so_far else {
-        return so_far;
-    };
-    let so_far = stops(row);
-    let Answer::Done(_) = so_far else {
-        return so_far;
-    };
-    checks(list, n)
+    let right = code128::checksum_value(symbols);
+    if drawn == right {
+        Ok(())
+    } else {
+        Err(Refusal::Check(usize::from(right)))
+    }
+}
+
+// All tests of read but that of the room, in their order: 10, 11, 12 or 16 and 13, 15, 14. Answers
+// the symbols. They go to the front of `list`, which has room for the blocks of the row, or of the
+// longest.
+fn judge<'a>(row: &[u8], list: &'a mut [u8]) -> Result<&'a [u8], Refusal>
+    requires { min (length row.now) (row_length most) ≤ 11 * length list.old + 13 }
+    ensures { Judged row.now result }
+{
+    let n = shapes::shape(row)?;
+    let numbers = &mut list[..n + 1];
+    blocks(row, numbers)?;
+    stops(row)?;
+    let drawn = numbers[n];
+    let symbols = &numbers[..n];
+    checks(symbols, drawn)?;
+    Ok(symbols)
 }
 
 // Reads by way of a list that has room for the blocks. The symbols go to the front of `out` once
@@ -182,26 +134,28 @@ fn read_by(row: &[u8], list: &mut [u8], out: &mut [u8]) -> Answer
     requires { min (length row.now) (row_length most) ≤ 11 * length list.old + 13 }
     ensures { Gave (Paper.read (length out.old) row.now) (number_of result) (second_of result) out.old out.new }
 {
-    let so_far = judge(row, list);
-    let Answer::Done(n) = so_far else {
-        return so_far;
-    };
+    let symbols = judge(row, list)?;
+    let n = symbols.len();
     if out.len() < n {
-        return Answer::Refused(Refusal::Room, n);
+        return Err(Refusal::Room(n));
     }
-    helpers::join_slices(out, &list[0..n]);
-    Answer::Done(n)
+    // Stays: `copy_from_slice` calls `memmove`; tests/c holds the library to `memset` alone.
+    for (i, m) in symbols.iter().enumerate() {
+        out[i] = *m;
+    }
+    Ok(n)
 }
 
 // Read: a row to its symbol list. The list is cleared before it is used, so a row of up to 255
-// symbols takes a short one.
+// symbols, or 256 blocks and the stop, takes a short one.
+#[tactic(auto, unfolding(paper::specs::Jobs::most, paper::specs::Jobs::row_length))]
 pub fn read(row: &[u8], out: &mut [u8]) -> Answer
     ensures { Gave (Paper.read (length out.old) row.now) (number_of result) (second_of result) out.old out.new }
 {
-    if row.len() <= 2829 {
-        let mut list = [0u8; 256];
-        return read_by(row, &mut list, out);
+    // Stays: two calls: the row's length says which list is cleared; one for both is cleared whole.
+    if row.len() <= 11 * 256 + 13 {
+        read_by(row, &mut [0; 256], out)
+    } else {
+        read_by(row, &mut [0; shapes::MOST + 1], out)
     }
-    let mut list = [0u8; shapes::MOST + 1];
-    read_by(row, &mut list, out)
 }

@@ -5,44 +5,54 @@ use mathlib.Core.Path.{◌≡◌, refl, sym, ap, ◌∙◌}
 use mathlib.Core.List.{List, [], ◌++◌}
 use native.Mathlib.Omega.{arith}
 use lib.ListN.{length, take, drop, length-drop, length-append}
-use lib.Seq.{sets, length-take-le, take_all}
+use lib.Seq.{sets, length-sets, length-take-le, take_all}
+use borrow.Rule.Slice.PartMut.{mid_of, put_mid}
 use borrow.Author.Tests.{leb-true, eqb-true}
 use Rattle.helpers.specs.Answers.{Answer, refuse, accept, Test, refuses, passes, ◌then◌, whole, into}
 use Rattle.helpers.proofs.Answering.{refuse_not_accept, accept_number, then_accept, ask_passes, into_refuse, into_room, into_short}
-use Rattle.helpers.proofs.Writes.{sets_then}
-use Rattle.paper.specs.Jobs.{row_length, bytes, bytes_for, head, record_of, pack, unbytes, head_length, count_of, stored_cells, unpack}
+use Rattle.helpers.proofs.Part.{part_stored}
+use Rattle.helpers.proofs.Writes.{sets_then, sets_front}
+use Rattle.paper.specs.Jobs.{row_length, bytes, bytes_for, head, record_of, record_length, pack, unbytes, head_length, count_of, stored_cells, unpack}
 use Rattle.paper.proofs.Bytes.{length_bytes, length_unbytes}
 use Rattle.shapes.specs.Vetted.{shaped}
 use Rattle.shapes.proofs.Shaping.{row_passed}
 use Rattle.record.specs.Tested.{tested}
+use Rattle.record.proofs.Counts.{length_needed}
 use Rattle.record.proofs.Tests.{Sized, sized}
 
 -- ---- pack, after `shape`
 
-module _ (cs : List ℕ) (n start : ℕ) (h : start ≡ length (head n)) where
+module _ (cs : List ℕ) (n : ℕ) where
   abbrev size : ℕ
   size = (length cs + 7) / 8
 
-  abbrev packed : List ℕ
+  abbrev pub packed : List ℕ
   packed = head n ++ bytes size cs
 
-  pub length_packed : length packed ≡ start + size
-  length_packed = length-append (head n) (bytes size cs) ∙ omega (arith, length_bytes size cs)
+  module _ (sized : length cs ≡ 11 * n + 24) where
+    pub length_packed : record_length n ≡ length packed
+    length_packed = length_needed n ∙ omega (arith, length-append (head n) (bytes size cs), length_bytes size cs)
 
-  -- the head stored, and then the bytes
-  pub packed_stored : (l m m' : List ℕ) → m ≡ sets l 0 (head n) → m' ≡ sets m start (bytes size cs) → m' ≡ sets l 0 packed
-  packed_stored l m m' p q = q ∙ ap (λ (x : List ℕ). sets x start (bytes size cs)) p ∙ sets_then (head n) (bytes size cs) l 0 start (omega arith)
+    -- the head stored, and then the bytes into what is behind it
+    pub packed_stored : (start end : ℕ) (l m p : List ℕ) → start ≡ length (head n) → end ≡ record_length n → end ≤ length l → m ≡ sets l 0 (head n)
+        → p ≡ sets (mid_of start (end - start) m) 0 (bytes size cs) → put_mid start (end - start) m p ≡ sets l 0 packed
+    packed_stored start end l m p e f fits q r =
+        let long : length m ≡ length l = ap length q ∙ length-sets l 0 (head n) in
+        let needed = length_needed n in
+        part_stored m p (bytes size cs) start end (omega arith) (omega arith) (omega (arith, length_bytes size cs)) r
+        ∙ ap (λ (x : List ℕ). sets x start (bytes size cs)) q
+        ∙ sets_then (head n) (bytes size cs) l 0 start (omega arith)
 
-  module _ (room : ℕ) (e : shaped cs ≡ accept n []) where
-    pack_on : pack room cs ≡ into room (accept (length packed) packed)
-    unfolding pack whole record_of bytes_for
-    pack_on = row_passed cs room _ n e
+    module _ (room : ℕ) (e : shaped cs ≡ accept n []) where
+      pack_on : pack room cs ≡ into room (accept (length packed) packed)
+      unfolding pack whole record_of bytes_for
+      pack_on = row_passed cs room _ n e
 
-    pub pack_room : room < start + size → pack room cs ≡ refuse 5 (start + size)
-    pack_room l = pack_on ∙ into_short room _ packed (start + size) (omega (arith, length_packed)) (sym length_packed)
+      pub pack_room : {needed : ℕ} → needed ≡ record_length n → room < needed → pack room cs ≡ refuse 5 needed
+      pack_room {needed} f l = pack_on ∙ into_short room _ packed needed (omega (arith, length_packed)) (f ∙ length_packed)
 
-    pub pack_done : start + size ≤ room → pack room cs ≡ accept (start + size) packed
-    pack_done l = pack_on ∙ into_room room _ packed (omega (arith, length_packed)) ∙ ap (λ (k : ℕ). accept k packed) length_packed
+      pub pack_done : {needed : ℕ} → needed ≡ record_length n → needed ≤ room → pack room cs ≡ accept needed packed
+      pack_done f l = pack_on ∙ into_room room _ packed (omega (arith, length_packed)) ∙ ap (λ (k : ℕ). accept k packed) (sym (f ∙ length_packed))
 
 -- ---- unpack, after `test`
 
@@ -64,16 +74,16 @@ module _ (x y : Answer) (refusal : (k m : ℕ) → refuse k m ≡ x → refuse k
 rest_of : (l : List ℕ) (start : ℕ) → take (length l - start) (drop start l) ≡ drop start l
 rest_of l start = take_all (length l - start) (drop start l) (omega (arith, length-drop start l))
 
--- the last bytes of a record, as many as n cells take, as the part from their place on
+-- the last b bytes of a record, as the part from their place on
 abbrev pub body_of : List ℕ → ℕ → List ℕ
-body_of rec n = take (length rec - (length rec - (n + 7) / 8)) (drop (length rec - (n + 7) / 8) rec)
+body_of rec b = take (length rec - (length rec - b)) (drop (length rec - b) rec)
 
--- A record that passes the tests, with the number of its cells.
-pub record Passed (rec : List ℕ) (n : ℕ) : Type 0 where
-  pub headed : (n + 7) / 8 ≤ length rec
-  pub enough : n ≤ 8 * length (body_of rec n)
-  pub long : length (take n (unbytes (body_of rec n))) ≡ n
-  pub answer : (room : ℕ) → unpack room rec ≡ into room (accept n (take n (unbytes (body_of rec n))))
+-- A record that passes the tests, with the number of its cells and of the bytes that they take.
+pub record Passed (rec : List ℕ) (n b : ℕ) : Type 0 where
+  pub headed : b ≤ length rec
+  pub enough : n ≤ 8 * length (body_of rec b)
+  pub long : length (take n (unbytes (body_of rec b))) ≡ n
+  pub answer : (room : ℕ) → unpack room rec ≡ into room (accept n (take n (unbytes (body_of rec b))))
 
 module _ (rec : List ℕ) where
   pub unpack_refused : (room k m : ℕ) → tested rec ≡ refuse k m → unpack room rec ≡ refuse k m
@@ -97,14 +107,14 @@ module _ (rec : List ℕ) where
       let p = sized rec (leb-true _ _ (ask_passes _ _ _ short.0)) (ask_passes _ _ _ version.0) (ask_passes _ _ _ arrived.0) (ask_passes _ _ _ fits.0) (count_of rec) refl (eqb-true _ _ (ask_passes _ _ _ count.0)) in
       (p, accept_number (then_accept _ _ count.1).1)
 
-  pub tested_passed : (n : ℕ) → tested rec ≡ accept n [] → Passed rec n
+  pub tested_passed : (n b : ℕ) → tested rec ≡ accept n [] → b ≡ (n + 7) / 8 → Passed rec n b
   unfolding row_length stored_cells whole
-  tested_passed n e =
+  tested_passed n b e q =
       let both = tested_sized n e in
       let p = both.0 in
       let cells : 11 * (count_of rec + 1) + 13 ≡ n = both.1 in
-      let start : length rec - (n + 7) / 8 ≡ head_length rec = omega (arith, p.long) in
-      let body : body_of rec n ≡ drop (head_length rec) rec = rw start (rest_of rec (head_length rec)) in
+      let start : length rec - b ≡ head_length rec = omega (arith, p.long) in
+      let body : body_of rec b ≡ drop (head_length rec) rec = rw start (rest_of rec (head_length rec)) in
       let enough : n ≤ 8 * length (drop (head_length rec) rec) = omega (arith, p.long, length-drop (head_length rec) rec) in
       let long : length (take n (unbytes (drop (head_length rec) rec))) ≡ n = length-take-le n _ (omega (arith, length_unbytes (drop (head_length rec) rec))) in
       record {
@@ -113,3 +123,9 @@ module _ (rec : List ℕ) where
         long = rw body long;
         answer = λ room. unpack_on room n e ∙ rw (cells, body, long);
       }
+
+-- the front of a list filled with the first n of some cells
+pub filled : (l cs m : List ℕ) (n : ℕ) → length (take n cs) ≡ n → n ≤ length l → m ≡ take (length (take n l)) cs → m ++ drop n l ≡ sets l 0 (take n cs)
+filled l cs m n long h e =
+    let front : length (take n l) ≡ n = length-take-le n l h in
+    rw (e, front) (ap (λ (k : ℕ). take n cs ++ drop k l) (sym long) ∙ sym (sets_front l (take n cs) (omega arith)))

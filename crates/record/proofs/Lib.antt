@@ -1,4 +1,3 @@
-pub mod Lowest
 pub mod Weighs
 pub mod Packs
 pub mod Spreads

@@ -1,21 +1,16 @@
 -- The spare bits of a record are the lowest bits of its last byte: all 0 where a remainder is 0.
 -- Assumes nothing.
-use Prim.Native.Nat.{ℕ, suc, ◌+◌, ◌-◌, ◌*◌, ◌%◌, ◌<◌}
+use Prim.Native.Nat.{ℕ, suc, ◌+◌, ◌-◌, ◌*◌, ◌%◌, ◌^◌, ◌<◌}
 use mathlib.Core.Path.{◌≡◌, refl}
 use mathlib.Core.Bool.{Bool, true, false, not}
 use mathlib.Core.List.{List, [], append-nil}
 use native.Mathlib.Omega.{arith}
-use lib.Dec.{T, ltb, ltb→lt, eqb}
+use lib.Dec.{T, eqb}
 use lib.ListN.{length, get_or, drop, drop_of_length-le}
 use lib.Seq.{drop-drop}
 use Rattle.paper.specs.Jobs.{eight, unbytes, all_zero}
 use Rattle.helpers.proofs.Below.{below, at}
-use Rattle.record.proofs.Lowest.{lowest}
 use Rattle.record.proofs.Unpacks.{byte_cells}
-
-pub lowest_some : (k : ℕ) → k < 8 → 0 < get_or lowest k 0
-unfolding lowest
-lowest_some k h = ltb→lt 0 (get_or lowest k 0) (at (λ j. ltb 0 (get_or lowest j 0)) 8 tt k h)
 
 -- two truth values compared
 abbrev alike : Bool → Bool → Bool
@@ -29,10 +24,10 @@ alike_same false true t = absurd t
 alike_same false false t = refl
 
 -- tried at every byte and every number of bits
-pub spare_bits : (b k : ℕ) → b < 256 → k < 8 → eqb (b % get_or lowest k 0) 0 ≡ all_zero (drop (8 - k) (eight b))
-unfolding lowest eight all_zero
+pub spare_bits : (b k : ℕ) → b < 256 → k < 8 → eqb (b % (1 * 2 ^ k % 256)) 0 ≡ all_zero (drop (8 - k) (eight b))
+unfolding eight all_zero
 spare_bits b k h l =
-    let clear : ℕ → ℕ → Bool = λ x j. eqb (x % get_or lowest j 0) 0 in
+    let clear : ℕ → ℕ → Bool = λ x j. eqb (x % (1 * 2 ^ j % 256)) 0 in
     let zeros : ℕ → ℕ → Bool = λ x j. all_zero (drop (8 - j) (eight x)) in
     alike_same (clear b k) (zeros b k) (at (λ j. alike (clear b j) (zeros b j)) 8 (at (λ x. below (λ j. alike (clear x j) (zeros x j)) 8) 256 tt b h) k l)
 

@@ -1,18 +1,18 @@
 -- The cells of a byte, taken from its top bit one after the other, and a loop that stores them.
 -- Assumes nothing.
 use Prim.Native.Nat.{ℕ, suc, ◌+◌, ◌*◌, ◌/◌, ◌%◌, ◌<◌, ◌≤◌}
-use mathlib.Core.Path.{◌≡◌, refl, sym, ◌∙◌}
+use mathlib.Core.Path.{◌≡◌, refl, ◌∙◌}
 use mathlib.Core.Bool.{Bool}
 use mathlib.Core.List.{List}
-use native.Mathlib.Nat.{add-zero, zero-add, add-suc, suc-add}
+use native.Mathlib.Nat.{zero-add, add-suc, suc-add}
 use native.Mathlib.Numerals.{add-one}
 use native.Mathlib.Omega.{arith}
 use lib.Dec.{eqb, eqb→eq}
-use lib.ListN.{length, get_or, set, take, length-take}
-use lib.Seq.{sets, get_or-take}
+use lib.ListN.{length, get_or, set}
+use lib.Seq.{sets}
 use Rattle.paper.specs.Jobs.{eight}
 use Rattle.helpers.proofs.Below.{below, at}
-use Rattle.helpers.proofs.Writes.{Storing, storing_begin, storing_turn, storing_end}
+use Rattle.helpers.proofs.Writes.{Storing, storing_turn, storing_short}
 
 pub length_eight : (b : ℕ) → length (eight b) ≡ 8
 unfolding eight
@@ -31,15 +31,9 @@ pub record Spreading (l₀ : List ℕ) (b : ℕ) (l : List ℕ) (rest j : ℕ) :
   pub short : length l₀ ≤ 8
   pub small : rest < 256
   pub ahead : (i : ℕ) → i + j < 8 → get_or (eight rest) i 0 ≡ get_or (eight b) (i + j) 0
-  pub stores : Storing l₀ 0 (take (length l₀) (eight b)) l j
-
-pub spreading_begin : {l : List ℕ} {b : ℕ} → length l ≤ 8 → b < 256 → Spreading l b l b 0
-spreading_begin h s = record { short = h; small = s; ahead = λ i l. rw (add-zero i) refl; stores = storing_begin }
+  pub stores : Storing l₀ 0 (eight b) l j
 
 module _ {l₀ l : List ℕ} {b rest j : ℕ} (p : Spreading l₀ b l rest j) where
-  long : length (take (length l₀) (eight b)) ≡ length l₀
-  long = omega (arith, p.short, length-take (length l₀) (eight b), length_eight b)
-
   top_cell : j < 8 → rest / 128 ≡ get_or (eight b) j 0
   unfolding eight
   top_cell h =
@@ -52,8 +46,8 @@ module _ {l₀ l : List ℕ} {b rest j : ℕ} (p : Spreading l₀ b l rest j) wh
         short = p.short;
         small = omega arith;
         ahead = rw e (λ i m. next_cell rest i p.small (omega arith) ∙ p.ahead (suc i) (omega arith) ∙ rw (add-one j, suc-add i j, add-suc i j) refl);
-        stores = storing_turn p.stores j v (omega arith) (omega (arith, long)) (d ∙ top_cell (omega (arith, p.short)) ∙ sym (get_or-take (length l₀) (eight b) j 0 h));
+        stores = storing_turn p.stores j v (omega arith) (omega (arith, p.short, length_eight b)) (d ∙ top_cell (omega (arith, p.short)));
       }
 
-  pub spreading_end : length l₀ ≤ j → l ≡ sets l₀ 0 (take (length l₀) (eight b))
-  spreading_end h = storing_end p.stores (omega (arith, long))
+  pub spreading_end : length l₀ ≤ j → l ≡ sets l₀ 0 (eight b)
+  spreading_end h = storing_short p.stores (omega arith)

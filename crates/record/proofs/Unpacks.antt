@@ -1,25 +1,19 @@
--- The cells of some bytes, and a loop that stores the first n of them.
+-- The cells of some bytes, and a loop that stores those of one byte after the other, as far as the
+-- list reaches.
 -- Assumes nothing.
-use Prim.Native.Nat.{ℕ, zero, suc, ◌+◌, ◌-◌, ◌*◌, ◌<◌, ◌≤◌, min}
+use Prim.Native.Nat.{ℕ, zero, suc, ◌+◌, ◌-◌, ◌*◌, ◌<◌, ◌≤◌}
 use mathlib.Core.Path.{◌≡◌, refl, sym, ap, ◌∙◌}
 use mathlib.Core.List.{List, [], ◌∷◌, ◌++◌, append-nil}
-use native.Mathlib.Nat.{sub-zero}
 use native.Mathlib.Numerals.{add-one}
 use native.Mathlib.Omega.{arith}
-use native.Mathlib.Decide.{dec_le}
-use lib.ListN.{length, get_or, take, drop, length-take}
-use lib.Seq.{sets, length-sets, drop-nil, drop-cons, drop-append-add, take-append-le, take-append-add, take_all}
-use borrow.Rule.Slice.PartMut.{mid_of, put_mid, mid_len}
+use lib.ListN.{length, get_or, take, drop, drop_of_length-le}
+use lib.Seq.{sets, length-sets, drop-nil, drop-cons, drop-append-add}
+use borrow.Rule.Slice.PartMut.{mid_of, put_mid}
 use Rattle.paper.specs.Jobs.{eight, unbytes}
-use Rattle.helpers.proofs.Writes.{sets_then}
-use Rattle.helpers.proofs.Part.{part_stored}
+use Rattle.paper.proofs.Bytes.{length_unbytes}
+use Rattle.helpers.proofs.Part.{part_stored, part_end}
+use Rattle.helpers.proofs.Writes.{sets_then, sets_out, sets_short}
 use Rattle.record.proofs.Spreads.{length_eight}
-
--- the cells of a byte, as many as the part from a to e has places, stored into that part
-part_spread : (l m : List ℕ) (b a e : ℕ) → a ≤ e → e ≤ length l → m ≡ sets (mid_of a (e - a) l) 0 (take (length (mid_of a (e - a) l)) (eight b))
-    → put_mid a (e - a) l m ≡ sets l a (take (e - a) (eight b))
-part_spread l m b a e p q s =
-    part_stored l m (take (e - a) (eight b)) a e p q (omega (arith, length-take (e - a) (eight b))) (s ∙ ap (λ (k : ℕ). sets (mid_of a (e - a) l) 0 (take k (eight b))) (mid_len a e l q))
 
 -- the cells from byte k on are those of the bytes from there on
 cells_from : (k : ℕ) (bs : List ℕ) → drop (8 * k) (unbytes bs) ≡ unbytes (drop k bs)
@@ -35,68 +29,45 @@ pub byte_cells : (k : ℕ) (bs : List ℕ) → k < length bs → drop (8 * k) (u
 unfolding unbytes
 byte_cells k bs h = cells_from k bs ∙ ap unbytes (drop-cons bs k 0 h)
 
--- A loop that has stored the cells of k bytes, or all n cells.
-pub record Unpacking (bs : List ℕ) (n : ℕ) (l₀ l : List ℕ) (k : ℕ) : Type 0 where
+-- A loop that has stored the cells of k bytes.
+pub record Unpacking (bs : List ℕ) (l₀ l : List ℕ) (k : ℕ) : Type 0 where
   pub long : length l ≡ length l₀
   -- the cells that are left, stored now, give what the whole run gives
-  pub left : sets l (8 * k) (take (n - 8 * k) (unbytes (drop k bs))) ≡ sets l₀ 0 (take n (unbytes bs))
+  pub left : sets l (8 * k) (unbytes (drop k bs)) ≡ sets l₀ 0 (unbytes bs)
 
-pub unpacking_begin : {bs l : List ℕ} {n : ℕ} → Unpacking bs n l l 0
-unpacking_begin {bs} {l} {n} = record { long = refl; left = rw (sub-zero n) refl }
-
-module _ {bs l₀ l : List ℕ} {n k : ℕ} (p : Unpacking bs n l₀ l k) where
-  pub unpacking_end : n ≤ 8 * k → l ≡ sets l₀ 0 (take n (unbytes bs))
-  unpacking_end h =
-      let none : n - 8 * k ≡ 0 = omega arith in
-      rw none at p.left
-
-  -- the cells of byte k come first of those that are left
-  cells_split : k < length bs → (e : ℕ) → 8 * k ≤ n → e ≡ min (8 * k + 8) n
-      → take (n - 8 * k) (unbytes (drop k bs)) ≡ take (e - 8 * k) (eight (get_or bs k 0)) ++ take (n - 8 * (k + 1)) (unbytes (drop (k + 1) bs))
+module _ {bs l₀ l : List ℕ} {k : ℕ} (p : Unpacking bs l₀ l k) where
+  unpacking_turn : (m : List ℕ) → k < length bs → m ≡ sets l (8 * k) (eight (get_or bs k 0)) → Unpacking bs l₀ m (k + 1)
   unfolding unbytes
-  cells_split h e low q = rw (drop-cons bs k 0 h, add-one k) (elim (dec_le (8 * k + 8) n) [ yes m ↦ whole m | no m ↦ part (omega arith) ])
-    where
-      b : List ℕ
-      b = eight (get_or bs k 0)
-
-      u : List ℕ
-      u = unbytes (drop (suc k) bs)
-
-      whole : 8 * k + 8 ≤ n → take (n - 8 * k) (b ++ u) ≡ take (e - 8 * k) b ++ take (n - 8 * suc k) u
-      whole m =
-          let all : n - 8 * k ≡ length b + (n - 8 * suc k) = omega (arith, length_eight (get_or bs k 0)) in
-          rw all (take-append-add b u (n - 8 * suc k)) ∙ ap (λ (x : List ℕ). x ++ take (n - 8 * suc k) u) (sym (take_all (e - 8 * k) b (omega (arith, length_eight (get_or bs k 0)))))
-
-      part : n < 8 * k + 8 → take (n - 8 * k) (b ++ u) ≡ take (e - 8 * k) b ++ take (n - 8 * suc k) u
-      part m =
-          let same : e - 8 * k ≡ n - 8 * k = omega arith in
-          let none : n - 8 * suc k ≡ 0 = omega arith in
-          rw (same, none, append-nil (take (n - 8 * k) b)) (take-append-le (n - 8 * k) b u (omega (arith, length_eight (get_or bs k 0))))
-
-  pub unpacking_turn : (e : ℕ) (m : List ℕ) → k < length bs → 8 * k < n → n ≤ length l₀ → e ≡ min (8 * k + 8) n
-      → m ≡ sets (mid_of (8 * k) (e - 8 * k) l) 0 (take (length (mid_of (8 * k) (e - 8 * k) l)) (eight (get_or bs k 0)))
-      → Unpacking bs n l₀ (put_mid (8 * k) (e - 8 * k) l m) (k + 1)
-  unpacking_turn e m h low high q s =
-      let stored : put_mid (8 * k) (e - 8 * k) l m ≡ sets l (8 * k) front = part_spread l m (get_or bs k 0) (8 * k) e (omega arith) (omega (arith, p.long)) s in
+  unpacking_turn m h s =
+      let b = get_or bs k 0 in
       record {
-        long = ap length stored ∙ length-sets l (8 * k) front ∙ p.long;
+        long = ap length s ∙ length-sets l (8 * k) (eight b) ∙ p.long;
         left =
-            ap (λ (x : List ℕ). sets x (8 * (k + 1)) back) stored
-            ∙ elim (dec_le (8 * k + 8) n) [ yes m ↦ whole m | no m ↦ part (omega arith) ]
-            ∙ ap (sets l (8 * k)) (sym (cells_split h e (omega arith) q))
+            ap (λ (x : List ℕ). sets x (8 * (k + 1)) (unbytes (drop (k + 1) bs))) s
+            ∙ sets_then (eight b) (unbytes (drop (k + 1) bs)) l (8 * k) (8 * (k + 1)) (omega (arith, length_eight b))
+            ∙ ap (λ (j : ℕ). sets l (8 * k) (eight b ++ unbytes (drop j bs))) (add-one k)
+            ∙ ap (λ (x : List ℕ). sets l (8 * k) (unbytes x)) (sym (drop-cons bs k 0 h))
             ∙ p.left;
       }
-    where
-      front : List ℕ
-      front = take (e - 8 * k) (eight (get_or bs k 0))
 
-      back : List ℕ
-      back = take (n - 8 * (k + 1)) (unbytes (drop (k + 1) bs))
+  -- the cells of one byte, stored into their part
+  pub unpacking_full : (b : ℕ) (m : List ℕ) → b ≡ get_or bs k 0 → k < length bs → 8 * k + 8 ≤ length l₀ → m ≡ sets (mid_of (8 * k) (8 * k + 8 - 8 * k) l) 0 (eight b)
+      → Unpacking bs l₀ (put_mid (8 * k) (8 * k + 8 - 8 * k) l m) (k + 1)
+  unpacking_full b m e h long s =
+      unpacking_turn _ h
+      (part_stored l m (eight b) (8 * k) (8 * k + 8) (omega arith) (omega (arith, p.long)) (omega (arith, length_eight b)) s ∙ ap (λ (x : ℕ). sets l (8 * k) (eight x)) e)
 
-      whole : 8 * k + 8 ≤ n → sets (sets l (8 * k) front) (8 * (k + 1)) back ≡ sets l (8 * k) (front ++ back)
-      whole m = sets_then front back l (8 * k) (8 * (k + 1)) (omega (arith, length-take (e - 8 * k) (eight (get_or bs k 0)), length_eight (get_or bs k 0)))
+  -- a list that is full has the first of the cells
+  pub unpacking_end : length l₀ ≤ 8 * k → length l₀ ≤ 8 * length bs → l ≡ take (length l₀) (unbytes bs)
+  unpacking_end h enough =
+      sym (sets_out (unbytes (drop k bs)) l (8 * k) (omega (arith, p.long)))
+      ∙ p.left
+      ∙ sets_short (unbytes bs) l₀ (length l₀) (omega (arith, length_unbytes bs))
+      ∙ ap (λ (x : List ℕ). take (length l₀) (unbytes bs) ++ x) (drop_of_length-le l₀ (omega arith))
+      ∙ append-nil (take (length l₀) (unbytes bs))
 
-      part : n < 8 * k + 8 → sets (sets l (8 * k) front) (8 * (k + 1)) back ≡ sets l (8 * k) (front ++ back)
-      part m =
-          let none : n - 8 * (k + 1) ≡ 0 = omega arith in
-          rw (none, append-nil front)
+-- the first cells of a byte, stored into the list's end, are the last
+pub unpacking_last : {bs l₀ l : List ℕ} {k : ℕ} → Unpacking bs l₀ l k → (m : List ℕ) → 8 * k < length l₀ → length l₀ ≤ 8 * k + 8 → length l₀ ≤ 8 * length bs
+    → m ≡ sets (mid_of (8 * k) (length l - 8 * k) l) 0 (eight (get_or bs k 0)) → put_mid (8 * k) (length l - 8 * k) l m ≡ take (length l₀) (unbytes bs)
+unpacking_last {bs} {l = l} {k} p m some last enough s =
+    unpacking_end (unpacking_turn p _ (omega arith) (part_end l m (eight (get_or bs k 0)) (8 * k) (omega (arith, p.long)) s)) (omega arith) enough

@@ -1,17 +1,13 @@
 -- The tests of a record before the test of the room, and the parts of them that the code does one
 -- after the other. Nobody audits these.
 -- Document 01, "Unpack: 20, 21, 22, 23, 5."; document 02, request 4. Assumes nothing.
-use Rattle.std.specs.Prelude.{ℕ, ◌-◌, ◌&&◌, ◌||◌, List, [], leb, eqb, length, drop, if◌then◌else◌}
+use Rattle.std.specs.Prelude.{ℕ, ◌-◌, ◌&&◌, ◌||◌, List, [], leb, eqb, length, drop, if◌then◌else◌, Option, Some, None}
 use Rattle.helpers.specs.Answers.{Answer, accept, ◌then◌, ask}
 use Rattle.paper.specs.Jobs.{row_length, all_zero, record_length, version_of, head_length, count_of, count_fits, stored_cells}
 
--- the count of a record; 0 where it has not all arrived, or where no record of its version has it
-unfoldable pub declared : List ℕ → ℕ
-declared rec = if leb (head_length rec) (length rec) && count_fits rec then count_of rec else 0
-
--- the length of a record of n symbols; 0 for none
-unfoldable pub length_for : ℕ → ℕ
-length_for n = if leb 1 n then record_length n else 0
+-- the count of a record, if it has all arrived and is one that its version has
+unfoldable pub declared : List ℕ → Option ℕ
+declared rec = if leb (head_length rec) (length rec) && count_fits rec then Some (count_of rec) else None
 
 -- a record that passes is accepted with its number of cells
 unfoldable pub tested : List ℕ → Answer

@@ -7,13 +7,10 @@ ghost use Rattle.std.proofs.lemmas.List.Edits.{sets};
 ghost use Rattle.helpers.specs.Answers.{Each, Gave};
 ghost use Rattle.helpers.specs.Numbers.{number_of, second_of};
 ghost use Rattle.helpers.specs.Terms.{answers};
-ghost use Rattle.paper.specs.Jobs.{most, pack, unpack, bits, bytes, head, eight, unbytes, all_zero, version_of};
-ghost use Rattle.record.specs.Tested.{declared, length_for, tested};
+ghost use Rattle.paper.specs.Jobs.{most, pack, unpack, bits, bytes, head, record_length, eight, unbytes, all_zero, version_of};
+ghost use Rattle.record.specs.Tested.{declared, tested};
 
 use helpers::{Answer, Refusal};
-
-// A byte divided by the number at place k leaves the byte's k lowest bits.
-const LOWEST: [u8; 8] = [1, 2, 4, 8, 16, 32, 64, 128];
 
 // The largest count of version 1, which has one byte for it.
 const ONE_BYTE: usize = 255;
@@ -23,13 +20,11 @@ fn byte(cells: &[u8]) -> u8
     requires { Each (λ c. c ≤ 1) cells.now }
     ensures { result ≡ bits 128 cells.now }
 {
-    let mut sum: u8 = 0;
-    let mut weight: u8 = 128;
-    let mut i: usize = 0;
-    while i < cells.len() {
-        sum += weight * cells[i];
+    let mut sum = 0;
+    let mut weight = 128;
+    for cell in cells {
+        sum += weight * *cell;
         weight /= 2;
-        i += 1;
     }
     sum
 }
@@ -38,173 +33,155 @@ fn byte(cells: &[u8]) -> u8
 fn head_length(n: usize) -> usize
     ensures { result ≡ length (head n) }
 {
-    if n <= ONE_BYTE {
-        return 2;
-    }
-    3
+    if n <= ONE_BYTE { 2 } else { 3 }
+}
+
+// The length of a record of n symbols.
+fn record_length(n: usize) -> usize
+    requires { n ≤ most }
+    ensures { result ≡ record_length n }
+{
+    head_length(n) + (11 * n + 24).div_ceil(8)
 }
 
 // Writes the head of a record of n symbols: the version, and the count in one byte or in two, the
 // high one first.
 fn put_head(n: usize, out: &mut [u8])
-    requires { (n ≤ most) × (length (head n) ≤ length out.old) }
+    requires { n ≤ most }
     ensures { out.new ≡ sets out.old 0 (head n) }
 {
     if n <= ONE_BYTE {
-        out[0] = 1;
-        out[1] = n as u8;
-        return;
+        helpers::join_slices(out, &[1, n as u8]);
+    } else {
+        let [high, low] = (n as u16).to_be_bytes();
+        helpers::join_slices(out, &[2, high, low]);
     }
-    out[0] = 2;
-    out[1] = (n / 256) as u8;
-    out[2] = (n % 256) as u8;
 }
 
-// Writes the bytes of a row from place `start` on, after the record's head: the full ones, and a
-// last one where cells are left for it. Full bytes go apart from the last, so that eight cells are
-// summed without a loop.
-fn put_bytes(row: &[u8], start: usize, out: &mut [u8])
-    requires { (start + (length row.now + 7) / 8 ≤ length out.old) × Each (λ c. c ≤ 1) row.now }
-    ensures { out.new ≡ sets out.old start (bytes ((length row.now + 7) / 8) row.now) }
+// Writes the bytes of a row: the full ones, and a last one where cells are left for it.
+// Stays: one loop over `chunks(8)` takes 1.6 of plain Rust's time for a row of two symbols, where
+// the bar is 1.5.
+fn put_bytes(row: &[u8], out: &mut [u8])
+    requires { ((length row.now + 7) / 8 ≤ length out.old) × Each (λ c. c ≤ 1) row.now }
+    ensures { out.new ≡ sets out.old 0 (bytes ((length row.now + 7) / 8) row.now) }
 {
-    let len = row.len();
-    let full = len / 8;
-    let mut k: usize = 0;
-    while k < full {
-        let at = 8 * k;
-        let e = at + 8;
-        out[start + k] = byte(&row[at..e]);
-        k += 1;
+    let eights = row.chunks_exact(8);
+    let left = eights.remainder();
+    for (k, cells) in eights.enumerate() {
+        // Stays: by index, since after chunks_exact_mut or iter_mut().zip a proof knows no element.
+        out[k] = byte(cells);
     }
-    let at = 8 * k;
-    if at < len {
-        out[start + k] = byte(&row[at..len]);
+    if !left.is_empty() {
+        out[row.len() / 8] = byte(left);
     }
 }
 
 // Packs a row into a record: 10, 11, 5.
+#[tactic(auto, using(crate::proofs::Counts::length_needed))]
 pub fn pack(row: &[u8], out: &mut [u8]) -> Answer
     ensures { Gave (pack (length out.old) row.now) (number_of result) (second_of result) out.old out.new }
 {
-    let so_far = shapes::shape(row);
-    let Answer::Done(n) = so_far else {
-        return so_far;
-    };
-    let start = head_length(n);
-    let needed = start + (row.len() + 7) / 8;
+    let n = shapes::shape(row)?;
+    let needed = record_length(n);
     if out.len() < needed {
-        return Answer::Refused(Refusal::Room, needed);
+        return Err(Refusal::Room(needed));
     }
     put_head(n, out);
-    put_bytes(row, start, out);
-    Answer::Done(needed)
+    put_bytes(row, &mut out[head_length(n)..needed]);
+    Ok(needed)
 }
 
-// The count of a record of version 1 or 2, or 0 where no record of that version has it: its bytes
-// have not all arrived, or in version 2 it is up to 255 or above 4,000.
-fn count(record: &[u8]) -> usize
-    requires { (2 ≤ length «record».now) × (1 ≤ version_of «record».now) × (version_of «record».now ≤ 2) }
+// The count of a record, if it has all arrived and is one that its version has: 1 to 255 in version
+// 1, and 256 up to the limit in version 2.
+#[tactic(auto, using(crate::proofs::Counts::counts))]
+fn count(record: &[u8]) -> Option<usize>
     ensures { result ≡ declared «record».now }
 {
-    let high = helpers::wide(record[1]);
-    if record[0] == 1 {
-        return high;
+    match record {
+        [1, 0, ..] => None,
+        [1, n, ..] => Some(usize::from(*n)),
+        [2, high, low, ..] => {
+            let n = usize::from(u16::from_be_bytes([*high, *low]));
+            match n {
+                256..=shapes::MOST => Some(n),
+                _ => None,
+            }
+        }
+        _ => None,
     }
-    if record.len() < 3 {
-        return 0;
-    }
-    let low = helpers::wide(record[2]);
-    let n = 256 * high + low;
-    match n {
-        256..=shapes::MOST => n,
-        _ => 0,
-    }
-}
-
-// The length of a record of n symbols, 0 for none.
-fn record_length(n: usize) -> usize
-    requires { n ≤ most }
-    ensures { result ≡ length_for n }
-{
-    if n < 1 {
-        return 0;
-    }
-    head_length(n) + (11 * n + 31) / 8
 }
 
 // Whether the `spare` lowest bits of a byte are all 0.
+#[tactic(auto, using(crate::proofs::Spares::spare_bits))]
 fn spare_clear(last: u8, spare: usize) -> bool
     requires { spare < 8 }
     ensures { result ≡ all_zero (drop (8 - spare) (eight last)) }
 {
-    last % LOWEST[spare] == 0
+    last % (1 << spare) == 0
 }
 
 // The tests of a record of version 1 or 2 after its version: 22, 23. A count is believed only of a
 // record as long as it needs.
+#[tactic(auto, using(crate::proofs::Counts::declared_within), unfolding(paper::specs::Jobs::most))]
 fn test_count(record: &[u8]) -> Answer
     requires { (2 ≤ length «record».now) × (1 ≤ version_of «record».now) × (version_of «record».now ≤ 2) }
     ensures { answers result ≡ tested «record».now }
 {
-    let n = count(record);
+    let n = count(record).ok_or(Refusal::Count(0))?;
     let needed = record_length(n);
-    let len = record.len();
-    if len != needed {
-        return Answer::Refused(Refusal::Count, needed);
+    if record.len() != needed {
+        return Err(Refusal::Count(needed));
     }
     let cells = 11 * n + 24;
-    let last = len - 1;
-    if !spare_clear(record[last], (cells + 7) / 8 * 8 - cells) {
-        return Answer::Refused(Refusal::Spare, last);
+    let last = needed - 1;
+    if !spare_clear(record[last], 8 * cells.div_ceil(8) - cells) {
+        return Err(Refusal::Spare(last));
     }
-    Answer::Done(cells)
+    Ok(cells)
 }
 
 // The tests of a record: 20, 21, 22, 23. A record that passes is accepted with its number of cells.
+// Stays: the version is a byte of the record, and the papers call it by its number.
 fn test(record: &[u8]) -> Answer
     ensures { answers result ≡ tested «record».now }
 {
-    let len = record.len();
-    if len < 2 {
-        return Answer::Refused(Refusal::Short, len);
-    }
-    match record[0] {
+    let [version, _, ..] = *record else {
+        return Err(Refusal::Short(record.len()));
+    };
+    match version {
         1..=2 => test_count(record),
-        _ => Answer::Refused(Refusal::Version, helpers::wide(record[0])),
+        _ => Err(Refusal::Version(usize::from(version))),
     }
 }
 
 // Writes the cells of a byte, the first from its top bit, until the part is full.
-fn spread(part: &mut [u8], b: u8)
+fn spread(part: &mut [u8], byte: u8)
     requires { length part.old ≤ 8 }
-    ensures { part.new ≡ sets part.old 0 (take (length part.old) (eight b)) }
+    ensures { part.new ≡ sets part.old 0 (eight byte) }
 {
-    let mut rest = b;
-    let mut j: usize = 0;
-    while j < part.len() {
-        part[j] = rest / 128;
+    let mut rest = byte;
+    for cell in part.iter_mut() {
+        *cell = rest / 128;
         rest = rest % 128 * 2;
-        j += 1;
     }
 }
 
-// Writes the first `n` cells of some bytes into the front of `out`: those of the full bytes, and
-// what is left of the last.
-fn put_cells(bytes: &[u8], n: usize, out: &mut [u8])
-    requires { (n ≤ 8 * length bytes.now) × (n ≤ length out.old) }
-    ensures { out.new ≡ sets out.old 0 (take n (unbytes bytes.now)) }
+// Fills `out` with the first cells of some bytes: those of the full bytes, and what is left of the
+// last.
+// Stays: one loop over parts of up to eight takes 1.7 of plain Rust's time, where the bar is 1.5.
+fn put_cells(bytes: &[u8], out: &mut [u8])
+    requires { length out.old ≤ 8 * length bytes.now }
+    ensures { out.new ≡ take (length out.old) (unbytes bytes.now) }
 {
-    let full = n / 8;
-    let mut k: usize = 0;
-    while k < full {
+    let len = out.len();
+    let full = len / 8;
+    for (k, byte) in bytes[..full].iter().enumerate() {
         let at = 8 * k;
-        let e = at + 8;
-        spread(&mut out[at..e], bytes[k]);
-        k += 1;
+        // Stays: by index, since after chunks_exact_mut or iter_mut().zip a proof knows no element.
+        spread(&mut out[at..at + 8], *byte);
     }
-    let at = 8 * k;
-    if at < n {
-        spread(&mut out[at..n], bytes[k]);
+    if 8 * full < len {
+        spread(&mut out[8 * full..], bytes[full]);
     }
 }
 
@@ -212,14 +189,11 @@ fn put_cells(bytes: &[u8], n: usize, out: &mut [u8])
 pub fn unpack(record: &[u8], out: &mut [u8]) -> Answer
     ensures { Gave (unpack (length out.old) «record».now) (number_of result) (second_of result) out.old out.new }
 {
-    let so_far = test(record);
-    let Answer::Done(cells) = so_far else {
-        return so_far;
-    };
+    let cells = test(record)?;
     if out.len() < cells {
-        return Answer::Refused(Refusal::Room, cells);
+        return Err(Refusal::Room(cells));
     }
-    let start = record.len() - (cells + 7) / 8;
-    put_cells(&record[start..], cells, out);
-    Answer::Done(cells)
+    let start = record.len() - cells.div_ceil(8);
+    put_cells(&record[start..], &mut out[..cells]);
+    Ok(cells)
 }

@@ -7,65 +7,41 @@
 
 ghost use Rattle.std.specs.Prelude.{◌≤◌, length};
 
-use helpers::Answer;
-use lines::{Finished, LINE};
+use lines::{ANSWER, Finished, LINE, Line};
 use std::io::Read;
 
-// Between two reads: how much of the line's buffer is filled, and whether to read on.
-#[derive(Drop)]
-struct State {
-    len: usize,
-    more: bool,
-}
-
-// The place after the last blank, or 0: the cells stand there.
-fn after_blank(line: &[u8]) -> usize
-    ensures { result ≤ length line.now }
-{
-    let mut i = line.len();
-    while 0 < i {
-        if line[i - 1] == b' ' {
-            return i;
-        }
-        i -= 1;
-    }
-    i
+// What stands after the last blank, or all: there are the cells.
+fn after_blank(line: &[u8]) -> &[u8] {
+    line.rsplit(|b| *b == b' ').next().unwrap_or(line)
 }
 
 // Digits as cells, as far as both reach; returns how many. What is neither 0 nor 1 becomes no cell.
 fn cells(digits: &[u8], row: &mut [u8]) -> usize
     ensures { result ≤ length row.old }
 {
-    let n = helpers::shorter(digits.len(), row.len());
-    let mut i: usize = 0;
-    while i < n {
-        row[i] = digits[i].wrapping_sub(b'0');
-        i += 1;
+    for (cell, digit) in row.iter_mut().zip(digits) {
+        *cell = digit.wrapping_sub(b'0');
     }
-    n
+    digits.len().min(row.len())
 }
 
 // Writes numbers, each with a blank before it.
 fn show_numbers(rt: &impl Print, list: &[u8]) {
-    let mut i: usize = 0;
-    while i < list.len() {
-        let number = helpers::wide(list[i]) as u64;
+    for number in list {
         let _ = print!(rt; " {number}");
-        i += 1;
     }
 }
 
 // Writes the symbols that read finds in a row, and their check.
 fn show_symbols(rt: &impl Print, row: &[u8]) {
-    let mut list = [0u8; 4001];
-    let answer = reader::read(row, &mut list);
-    let Answer::Done(n) = answer else {
+    let mut list = [0u8; 4000];
+    let Ok(n) = reader::read(row, &mut list) else {
         let _ = rt.write_all(b" not read");
         return;
     };
-    let check = code128::checksum_value(&list[0..n]);
-    list[n] = check;
-    show_numbers(rt, &list[0..n + 1]);
+    let symbols = &list[..n];
+    show_numbers(rt, symbols);
+    show_numbers(rt, &[code128::checksum_value(symbols)]);
 }
 
 // Writes a row as the label program gives it, and what it is read as.
@@ -73,95 +49,67 @@ fn show_row(rt: &impl Print, digits: &[u8]) {
     let _ = rt.write_all(digits);
     let mut row = [0u8; 22552];
     let n = cells(digits, &mut row);
-    show_symbols(rt, &row[0..n]);
+    show_symbols(rt, &row[..n]);
 }
 
 // Writes one line of the label program in the crate's words; an answer that the crate cannot give
 // stays as it is.
 fn show(rt: &impl Print, line: &[u8]) {
-    if line.len() < 1 {
+    let Some((_, text)) = line.split_last() else {
         return;
-    }
-    let end = line.len() - 1;
-    match line[0] {
-        b'0' => {
-            let at = after_blank(&line[0..end]);
-            show_row(rt, &line[at..end]);
-        }
-        b'2' => {
+    };
+    match text.first() {
+        Some(b'0') => show_row(rt, after_blank(text)),
+        Some(b'2') => {
             let _ = rt.write_all(b"Length");
         }
-        b'3' => {
+        Some(b'3') => {
             let _ = rt.write_all(b"Character");
         }
         _ => {
-            let _ = rt.write_all(&line[0..end]);
+            let _ = rt.write_all(text);
         }
     }
     let _ = rt.write_all(b"\n");
 }
 
-// Goes over one chunk and returns how much of the line's buffer is filled. The output has room
-// for one answer, so `feed` comes back after each.
-fn pump(rt: &impl Print, chunk: &[u8], line: &mut [u8; LINE], len: usize) -> usize {
-    let mut out = [0u8; lines::ANSWER];
-    let mut at: usize = 0;
-    let mut n = len;
+// Goes over one chunk. The output has room for one answer, so `feed` comes back after each.
+fn pump(rt: &impl Print, chunk: &[u8], line: &mut Line) {
+    let mut out = [0u8; ANSWER];
+    let mut at = 0;
+    // Stays: `feed` says how far it came, so `at` is no count.
     while at < chunk.len() {
-        let fed = lines::feed(chunk, at, line, n, &mut out, 0);
+        let fed = lines::feed(chunk, at, line, &mut out, 0);
         at = fed.at;
-        n = fed.len;
-        let used = fed.used;
-        show(rt, &out[0..used]);
+        show(rt, &out[..fed.used]);
     }
-    n
 }
 
-// Reads once and goes over what came. A read that fails ends the input.
-fn turn(
-    rt: &impl Print,
-    input: &mut impl Read,
-    chunk: &mut [u8],
-    line: &mut [u8; LINE],
-    len: usize,
-) -> State {
-    let n = match input.read(chunk) {
-        Ok(n) => n,
-        Err(_) => 0,
-    };
-    if n < 1 {
-        return State { len, more: false };
-    }
-    let len = pump(rt, &chunk[0..n], line, len);
-    State { len, more: true }
-}
-
-// Reads to the input's end; counts its turns down, from a number that no run uses up, since a
-// proved loop has to end.
-fn drain(rt: &impl Print, input: &mut impl Read, chunk: &mut [u8], line: &mut [u8; LINE]) -> usize {
-    let mut len: usize = 0;
-    let mut turns = u64::MAX;
-    while turns > 0 {
-        let state = turn(rt, input, chunk, line, len);
-        len = state.len;
-        if !state.more {
-            return len;
+// Stays: near to the label program's own, but it shows each answer and tells no failure.
+// Reads to the input's end, which a read that fails is too, and goes over what comes. A proved loop
+// has to end, so it takes a number of turns that no run uses up.
+fn drain(rt: &impl Print, input: &mut impl Read, line: &mut Line) {
+    let mut chunk = [0u8; 65536];
+    for _ in 0..u64::MAX {
+        let n = input.read(&mut chunk).unwrap_or(0);
+        if n == 0 {
+            break;
         }
-        turns -= 1;
+        pump(rt, &chunk[..n], line);
     }
-    len
 }
 
 // Replays all lines, a last one without newline too.
 #[tactic(auto, unfolding(lines::specs::Given::bytes_of))]
 fn main(rt: HostRuntime) {
-    let mut chunk = [0u8; 65536];
-    let mut line = [0u8; LINE];
-    let len = drain(&rt, &mut rt.stdin(), &mut chunk, &mut line);
-    let mut out = [0u8; lines::ANSWER];
-    // No last line; there is room for every answer.
-    let Finished::Line(n) = lines::finish(&line, len, &mut out) else {
-        return;
+    let mut line = Line {
+        bytes: [0; LINE],
+        len: 0,
     };
-    show(&rt, &out[0..n]);
+    drain(&rt, &mut rt.stdin(), &mut line);
+    let mut out = [0u8; ANSWER];
+    // Else there is no last line, since there is room for every answer.
+    if let Finished::Line(n) = lines::finish(&line, &mut out) {
+        show(&rt, &out[..n]);
+    }
 }

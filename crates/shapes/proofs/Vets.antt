@@ -1,15 +1,19 @@
 -- The tests that jobs begin with, one law for each way out.
 -- Assumes nothing.
-use Prim.Native.Nat.{ℕ, ◌+◌, ◌*◌, ◌<◌, ◌≤◌}
-use mathlib.Core.Path.{◌≡◌, refl, ◌∙◌}
-use mathlib.Core.Bool.{Bool, true, false}
+use Prim.Native.Nat.{ℕ, suc, ◌+◌, ◌-◌, ◌*◌, ◌≤◌}
+use mathlib.Core.Path.{◌≡◌, refl, ap, ◌∙◌}
+use mathlib.Core.Bool.{Bool, true, false, not}
 use mathlib.Core.List.{List, [], ◌∷◌}
+use native.Mathlib.Nat.{zero-add}
 use native.Mathlib.Omega.{arith}
+use native.Mathlib.Decide.{dec_le}
+use borrow.Author.Tests.{le-leb, lt-leb}
 use lib.Dec.{leb}
-use lib.ListN.{length, get_or, drop, length-drop}
+use lib.ListN.{length, get_or, take, drop, length-drop}
+use lib.Seq.{take_all}
+use Rattle.std.specs.Prelude.{Some, None, nat_lt, position}
 use Rattle.helpers.specs.Answers.{refuse, accept, Test, refuses, passes, ◌then◌, ask, every}
-use Rattle.helpers.specs.Terms.{first_not}
-use Rattle.helpers.proofs.Seek.{every_refuses, every_to_end}
+use Rattle.helpers.proofs.Found.{every_found, every_passed}
 use Rattle.paper.specs.Jobs.{possible, is_start, is_data, well_formed, row_length, symbol_count, possible_row, is_cell}
 use Rattle.paper.proofs.Lengths.{possible_count, possible_count_of, possible_row_lem, possible_row_of}
 use Rattle.paper.proofs.Lists.{start_bounds, bounds_start}
@@ -19,6 +23,10 @@ use Rattle.shapes.specs.Vetted.{vetted, shaped}
 denied : (b : Bool) → (b ≡ true → ⊥) → b ≡ false
 denied true f = absurd (f refl)
 denied false f = refl
+
+-- one of two numbers is above the other, or it is not
+above : (most x : ℕ) → leb x most ≡ not (nat_lt most x)
+above most x = elim (dec_le x most) [ yes h ↦ rw (le-leb x most h, lt-leb (suc most) x (omega arith)) refl | no h ↦ rw (lt-leb x most (omega arith), le-leb (suc most) x (omega arith)) refl ]
 
 -- ---- a symbol list
 
@@ -50,18 +58,19 @@ module _ (s : List ℕ) (low : 1 ≤ length s) (high : length s ≤ 4000) where
       vetted_form s low high (refuses 13 0) (start_wrong s low no_start)
 
   module _ (least : 103 ≤ get_or s 0 0) (greatest : get_or s 0 0 ≤ 105) where
-    abbrev place : ℕ
-    place = first_not (λ x. leb x 102) 1 (drop 1 s)
+    -- what stands after the START, as the code cuts it off
+    behind : take (length s - 1) (drop 1 s) ≡ drop 1 s
+    behind = take_all (length s - 1) (drop 1 s) (omega (arith, length-drop 1 s))
 
-    pub vetted_data : place < length s → vetted s ≡ refuse 13 place
+    pub vetted_data : (k : ℕ) → position (λ x. nat_lt 102 x) (take (length s - 1) (drop 1 s)) ≡ Some k → vetted s ≡ refuse 13 (1 + k)
     unfolding ◌then◌ is_data
-    vetted_data h =
-        vetted_form s low high (refuses 13 place) (start_right s low (bounds_start (get_or s 0 0) least greatest) ∙ every_refuses (λ x. leb x 102) 13 1 (drop 1 s) (omega (arith, length-drop 1 s)))
+    vetted_data k e =
+        vetted_form s low high (refuses 13 (1 + k)) (start_right s low (bounds_start (get_or s 0 0) least greatest) ∙ every_found _ (λ x. nat_lt 102 x) (above 102) 13 1 (drop 1 s) (rw behind at e))
 
-    pub vetted_done : length s ≤ place → vetted s ≡ accept (length s) []
+    pub vetted_done : position (λ x. nat_lt 102 x) (take (length s - 1) (drop 1 s)) ≡ None → vetted s ≡ accept (length s) []
     unfolding ◌then◌ is_data
-    vetted_done h =
-        vetted_form s low high passes (start_right s low (bounds_start (get_or s 0 0) least greatest) ∙ every_to_end (λ x. leb x 102) 13 1 (drop 1 s) (omega (arith, length-drop 1 s)))
+    vetted_done e =
+        vetted_form s low high passes (start_right s low (bounds_start (get_or s 0 0) least greatest) ∙ every_passed _ (λ x. nat_lt 102 x) (above 102) 13 1 (drop 1 s) (rw behind at e))
 
 -- ---- a row
 
@@ -73,19 +82,16 @@ module _ (cs : List ℕ) where
       rw no_row
 
   module _ (n : ℕ) (low : 1 ≤ n) (high : n ≤ 4000) (long : length cs ≡ 11 * n + 24) where
-    abbrev first : ℕ
-    first = first_not (λ x. leb x 1) 0 cs
-
     row_possible : (possible_row (length cs) ≡ true) × (symbol_count (length cs) ≡ n)
     unfolding row_length
     row_possible =
         let same : row_length n ≡ length cs = omega arith in
         rw same at (possible_row_of n low high)
 
-    pub shaped_cell : first < length cs → shaped cs ≡ refuse 11 first
+    pub shaped_cell : (at : ℕ) → position (λ x. nat_lt 1 x) cs ≡ Some at → shaped cs ≡ refuse 11 at
     unfolding shaped ◌then◌ ask is_cell
-    shaped_cell h = rw (row_possible.0, every_refuses (λ x. leb x 1) 11 0 cs (omega arith))
+    shaped_cell at e = rw (row_possible.0, every_found (λ x. leb x 1) (λ x. nat_lt 1 x) (above 1) 11 0 cs e) (ap (refuse 11) (zero-add at))
 
-    pub shaped_done : length cs ≤ first → shaped cs ≡ accept n []
+    pub shaped_done : position (λ x. nat_lt 1 x) cs ≡ None → shaped cs ≡ accept n []
     unfolding shaped ◌then◌ ask is_cell
-    shaped_done h = rw (row_possible.0, every_to_end (λ x. leb x 1) 11 0 cs (omega arith), row_possible.1)
+    shaped_done e = rw (row_possible.0, every_passed (λ x. leb x 1) (λ x. nat_lt 1 x) (above 1) 11 0 cs e, row_possible.1) refl

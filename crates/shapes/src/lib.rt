@@ -2,8 +2,8 @@
 // a list, 10 and 11 of a row.
 #![tactic(auto)]
 
-ghost use Rattle.std.specs.Prelude.{◌≤◌, ◌≡◌, leb, length, drop};
-ghost use Rattle.helpers.specs.Terms.{first_not, answers};
+ghost use Rattle.std.specs.Prelude.{◌≤◌, ◌≡◌, nat_lt, length, position};
+ghost use Rattle.helpers.specs.Terms.{answers};
 ghost use Rattle.paper.specs.Jobs as Paper;
 ghost use Rattle.shapes.specs.Vetted.{vetted, shaped};
 
@@ -15,29 +15,20 @@ pub const MOST: usize = 4000;
 // No row has more cells.
 pub const MOST_CELLS: usize = 11 * (MOST + 1) + 13;
 
-// The first place of `list` from `from` on whose number is above `most`, or the list's length.
-fn first_above(list: &[u8], from: usize, most: u8) -> usize
-    requires { from ≤ length list.now }
-    ensures { result ≡ first_not (λ x. leb x most) from (drop from list.now) }
+// The first place of `list` whose number is above `most`.
+fn first_above(list: &[u8], most: u8) -> Option<usize>
+    ensures { result ≡ position (λ x. nat_lt most x) list.now }
 {
-    let mut i = from;
-    while i < list.len() {
-        if most < list[i] {
-            return i;
-        }
-        i += 1;
-    }
-    i
+    list.iter().position(|x| most < *x)
 }
 
 // The tests of a symbol list that draw, spell and scan begin with: 10, 13.
 pub fn vet(symbols: &[u8]) -> Answer
     ensures { answers result ≡ vetted symbols.now }
 {
-    let n = symbols.len();
-    match n {
+    match symbols.len() {
         1..=MOST => vet_places(symbols),
-        _ => Answer::Refused(Refusal::Size, n),
+        n => Err(Refusal::Size(n)),
     }
 }
 
@@ -48,13 +39,12 @@ fn vet_places(symbols: &[u8]) -> Answer
 {
     match symbols[0] {
         103..=105 => {
-            let at = first_above(symbols, 1, 102);
-            if at < symbols.len() {
-                return Answer::Refused(Refusal::Place, at);
+            if let Some(k) = first_above(&symbols[1..], 102) {
+                return Err(Refusal::Place(1 + k));
             }
-            Answer::Done(symbols.len())
+            Ok(symbols.len())
         }
-        _ => Answer::Refused(Refusal::Place, 0),
+        _ => Err(Refusal::Place(0)),
     }
 }
 
@@ -68,14 +58,13 @@ pub fn shape(row: &[u8]) -> Answer
         35..=MOST_CELLS => {
             let n = (len - 24) / 11;
             if len != 11 * n + 24 {
-                return Answer::Refused(Refusal::Size, len);
+                return Err(Refusal::Size(len));
             }
-            let at = first_above(row, 0, 1);
-            if at < len {
-                return Answer::Refused(Refusal::Cell, at);
+            if let Some(at) = first_above(row, 1) {
+                return Err(Refusal::Cell(at));
             }
-            Answer::Done(n)
+            Ok(n)
         }
-        _ => Answer::Refused(Refusal::Size, len),
+        _ => Err(Refusal::Size(len)),
     }
 }

@@ -12,6 +12,7 @@ use helpers::Answer;
 
 // The documents' two numbers: 0 and the number of an acceptance, or a refusal's number and its
 // second number.
+// Stays: C takes two numbers by value (include/slatmonief.h), so this is no Result.
 #[repr(C)]
 #[derive(Clone, Copy)]
 pub struct Numbers {
@@ -19,22 +20,26 @@ pub struct Numbers {
     pub second: usize,
 }
 
-// The two numbers of an answer.
-fn tell(a: Answer) -> Numbers
-    ensures { Numbered a result.number result.second }
-{
-    Numbers {
-        number: a.number(),
-        second: a.second(),
+impl From<Answer> for Numbers {
+    // The two numbers of an answer.
+    ghost from_gives = { λ answer numbers. Numbered answer numbers.number numbers.second };
+
+    fn from(answer: Answer) -> Numbers {
+        Numbers {
+            number: helpers::number_of(answer),
+            second: helpers::second_of(answer),
+        }
     }
 }
+
+// Stays: the nine below are alike, since C calls each job by a name of its own.
 
 // Code points to a row.
 #[unsafe(no_mangle)]
 pub extern "C" fn slatmonief_encode(text: &[u32], row: &mut [u8]) -> Numbers
     ensures { Gave (encode (length row.old) text.now) result.number result.second row.old row.new }
 {
-    tell(code128::encode(text, row))
+    code128::encode(text, row).into()
 }
 
 // A symbol list to a row.
@@ -42,7 +47,7 @@ pub extern "C" fn slatmonief_encode(text: &[u32], row: &mut [u8]) -> Numbers
 pub extern "C" fn slatmonief_draw(symbols: &[u8], row: &mut [u8]) -> Numbers
     ensures { Gave (draw (length row.old) symbols.now) result.number result.second row.old row.new }
 {
-    tell(code128::draw(symbols, row))
+    code128::draw(symbols, row).into()
 }
 
 // A row to its symbol list.
@@ -50,7 +55,7 @@ pub extern "C" fn slatmonief_draw(symbols: &[u8], row: &mut [u8]) -> Numbers
 pub extern "C" fn slatmonief_read(row: &[u8], symbols: &mut [u8]) -> Numbers
     ensures { Gave (read (length symbols.old) row.now) result.number result.second symbols.old symbols.new }
 {
-    tell(reader::read(row, symbols))
+    reader::read(row, symbols).into()
 }
 
 // A symbol list to code points.
@@ -58,7 +63,7 @@ pub extern "C" fn slatmonief_read(row: &[u8], symbols: &mut [u8]) -> Numbers
 pub extern "C" fn slatmonief_spell(symbols: &[u8], text: &mut [u32]) -> Numbers
     ensures { Gave (spell (length text.old) symbols.now) result.number result.second text.old text.new }
 {
-    tell(speller::spell(symbols, text))
+    speller::spell(symbols, text).into()
 }
 
 // A symbol list to the bytes that a scanner sends.
@@ -66,7 +71,7 @@ pub extern "C" fn slatmonief_spell(symbols: &[u8], text: &mut [u32]) -> Numbers
 pub extern "C" fn slatmonief_scan(symbols: &[u8], bytes: &mut [u8]) -> Numbers
     ensures { Gave (scan (length bytes.old) symbols.now) result.number result.second bytes.old bytes.new }
 {
-    tell(speller::scan(symbols, bytes))
+    speller::scan(symbols, bytes).into()
 }
 
 // A row's cells to a row record.
@@ -74,7 +79,7 @@ pub extern "C" fn slatmonief_scan(symbols: &[u8], bytes: &mut [u8]) -> Numbers
 pub extern "C" fn slatmonief_pack(row: &[u8], record: &mut [u8]) -> Numbers
     ensures { Gave (pack (length «record».old) row.now) result.number result.second «record».old «record».new }
 {
-    tell(record::pack(row, record))
+    record::pack(row, record).into()
 }
 
 // A row record to its cells.
@@ -82,7 +87,7 @@ pub extern "C" fn slatmonief_pack(row: &[u8], record: &mut [u8]) -> Numbers
 pub extern "C" fn slatmonief_unpack(record: &[u8], row: &mut [u8]) -> Numbers
     ensures { Gave (unpack (length row.old) «record».now) result.number result.second row.old row.new }
 {
-    tell(record::unpack(record, row))
+    record::unpack(record, row).into()
 }
 
 // Twelve ASCII digits, or thirteen with the check, to a row of EAN-13.
@@ -90,7 +95,7 @@ pub extern "C" fn slatmonief_unpack(record: &[u8], row: &mut [u8]) -> Numbers
 pub extern "C" fn slatmonief_ean13_write(text: &[u8], row: &mut [u8]) -> Numbers
     ensures { Gave (write_ean13 (length row.old) text.now) result.number result.second row.old row.new }
 {
-    tell(ean::ean13::write(text, row))
+    ean::ean13::write(text, row).into()
 }
 
 // A row of EAN-13 to its thirteen ASCII digits.
@@ -98,5 +103,5 @@ pub extern "C" fn slatmonief_ean13_write(text: &[u8], row: &mut [u8]) -> Numbers
 pub extern "C" fn slatmonief_ean13_read(row: &[u8], text: &mut [u8]) -> Numbers
     ensures { Gave (read_ean13 (length text.old) row.now) result.number result.second text.old text.new }
 {
-    tell(ean_reader::ean13::read(row, text))
+    ean_reader::ean13::read(row, text).into()
 }

@@ -1,38 +1,40 @@
--- A walk over the numbers of a symbol list, each giving its elements in its set: the paper's
--- spelling and scanner reading are such walks; a loop that counts the elements, and loops that
--- store them.
+-- A walk over the numbers of a symbol list, each giving its elements in its place: the paper's
+-- spelling and scanner reading are such walks; a loop that counts the elements, and one that stores
+-- them.
 -- Assumes nothing.
-use Prim.Native.Nat.{ℕ, ◌+◌, ◌*◌, ◌<◌, ◌≤◌}
+use Prim.Native.Nat.{ℕ, suc, ◌+◌, ◌*◌, ◌<◌, ◌≤◌}
 use mathlib.Core.Path.{◌≡◌, refl, sym, ap, ◌∙◌}
 use mathlib.Core.Bool.{Bool, true, false}
 use mathlib.Core.List.{List, [], ◌∷◌, ◌++◌}
+use native.Mathlib.Nat.{add-zero, add-suc, suc-add}
 use native.Mathlib.Numerals.{add-one}
 use native.Mathlib.Omega.{arith}
-use native.Mathlib.Decide.{dec_lt}
-use lib.Dec.{eqb}
-use lib.ListN.{length, get_or, drop, drop_of_length-le, length-append}
+use lib.ListN.{length, get_or, set, drop, drop_of_length-le, length-append}
 use lib.Seq.{drop-cons, length-sets, sets}
-use borrow.Author.Tests.{lt-ltb, le-ltb, eqb-true}
+use Rattle.std.proofs.lemmas.Bool.Decides.{nat_tests}
 use Rattle.std.specs.Prelude.{if◌then◌else◌}
-use Rattle.helpers.specs.Terms.{Stored}
-use Rattle.helpers.proofs.Writes.{Writing, writing_begin, writing_block, writing_end}
-use Rattle.paper.specs.Iso15417.{Set, before, A, B, C, next, sent, is_shift, other, read_in, scanned_from}
-use Rattle.paper.specs.Crate.{letters, spell_from}
+use Rattle.paper.specs.Iso15417.{Set, before, A, B, C, next, sent, is_shift, other, read_in, scanned, scanned_from}
+use Rattle.paper.specs.Crate.{letters, spelled, spell_from}
 use Rattle.paper.specs.Shift.{unshifted}
 use Rattle.paper.proofs.Codes.{next_low}
-use Rattle.speller.specs.Walked.{walked, text_after}
+use Rattle.speller.specs.Walked.{text_after, walked, output}
 
 -- ---- the walks are those of the paper
 
-pub walked_letters : (s : Set) (ms : List ℕ) → walked next letters s ms ≡ spell_from s ms
+pub walked_letters : (s t : Set) (ms : List ℕ) → walked (λ s t m. letters s m) s t ms ≡ spell_from s ms
 unfolding walked spell_from
-walked_letters s [] = refl
-walked_letters s (m ∷ ms) = rw (walked_letters (next s m) ms)
+walked_letters s t [] = refl
+walked_letters s t (m ∷ ms) = rw (walked_letters (next s m) (text_after s m) ms)
 
-pub walked_sent : (s : Set) (ms : List ℕ) → walked next sent s ms ≡ unshifted s ms
+-- and without a look at Shift, the scanner reading from before request 1
+pub walked_sent : (s t : Set) (ms : List ℕ) → walked (λ s t m. sent s m) s t ms ≡ unshifted s ms
 unfolding walked unshifted
-walked_sent s [] = refl
-walked_sent s (m ∷ ms) = rw (walked_sent (next s m) ms)
+walked_sent s t [] = refl
+walked_sent s t (m ∷ ms) = rw (walked_sent (next s m) (text_after s m) ms)
+
+pub output_spelled : (s : List ℕ) → output (λ s t m. letters s m) s ≡ spelled s
+unfolding spelled
+output_spelled s = walked_letters before before s
 
 -- the set that text is read in, right after a Shift or not
 abbrev text_in : Bool → Set → Set
@@ -42,123 +44,123 @@ text_in shifted s = if shifted then other s else s
 sent_none : (s : Set) (m : ℕ) → 96 ≤ m → sent (other s) m ≡ sent s m
 unfolding sent other
 sent_none before m h = refl
-sent_none A m h = rw (le-ltb m 64 (omega arith), le-ltb m 96 h)
-sent_none B m h = rw (le-ltb m 64 (omega arith), le-ltb m 96 h)
+sent_none A m h = grind (arith, nat_tests)
+sent_none B m h = grind (arith, nat_tests)
 sent_none C m h = refl
 
 -- so all numbers may be read in the set of text
 sent_text : (shifted : Bool) (s : Set) (m : ℕ) → sent (text_in shifted s) m ≡ sent (read_in shifted s m) m
 unfolding read_in
 sent_text false s m = refl
-sent_text true s m = elim (dec_lt m 96) [ yes h ↦ rw (lt-ltb m 96 h) | no h ↦ rw (le-ltb m 96 (omega arith)) (sent_none s m (omega arith)) ]
+sent_text true s m = grind (arith, nat_tests, sent_none s m)
 
 -- 98 moves no set; so it leads text to the other set where it is a Shift, and else to the same
-at_98 : (s : Set) (m : ℕ) → eqb m 98 ≡ true → next s m ≡ s
-at_98 s m e = let is = eqb-true m 98 e in next_low s m (omega arith)
-
-when_shift : (t : Bool) (s u : Set) → (t ≡ true → u ≡ s) → (if t then other s else u) ≡ text_in t u
-when_shift true s u f = rw (f refl)
-when_shift false s u f = refl
-
-when_none : (t : Bool) (s u : Set) → other s ≡ s → (t ≡ true → u ≡ s) → (if t then other s else u) ≡ u
-when_none true s u e f = e ∙ sym (f refl)
-when_none false s u e f = refl
-
 text_after_lem : (s : Set) (m : ℕ) → text_after s m ≡ text_in (is_shift s m) (next s m)
 unfolding text_after is_shift other
-text_after_lem before m = when_none (eqb m 98) before (next before m) refl (at_98 before m)
-text_after_lem A m = when_shift (eqb m 98) A (next A m) (at_98 A m)
-text_after_lem B m = when_shift (eqb m 98) B (next B m) (at_98 B m)
-text_after_lem C m = when_none (eqb m 98) C (next C m) refl (at_98 C m)
+text_after_lem before m = grind (arith, nat_tests, next_low)
+text_after_lem A m = grind (arith, nat_tests, next_low)
+text_after_lem B m = grind (arith, nat_tests, next_low)
+text_after_lem C m = grind (arith, nat_tests, next_low)
 
--- where scan's walk stands: in a set, and in the set that text is read in
-pub data Stand : Type 0 where
-  stand : Set → Set → Stand
-
--- where it stands after a number
-unfoldable pub stand_after : Stand → ℕ → Stand
-stand_after (stand s t) m = stand (next s m) (text_after s m)
-
--- what a number gives there
-unfoldable pub sent_at : Stand → ℕ → List ℕ
-sent_at (stand s t) m = sent t m
-
-pub walked_scanned : (t : Bool) (s : Set) (ms : List ℕ) → walked stand_after sent_at (stand s (text_in t s)) ms ≡ scanned_from t s ms
-unfolding walked stand_after sent_at scanned_from
+pub walked_scanned : (t : Bool) (s : Set) (ms : List ℕ) → walked (λ s t m. sent t m) s (text_in t s) ms ≡ scanned_from t s ms
+unfolding walked scanned_from
 walked_scanned t s [] = refl
 walked_scanned t s (m ∷ ms) = rw (sent_text t s m, text_after_lem s m, walked_scanned (is_shift s m) (next s m) ms)
 
+pub output_scanned : (s : List ℕ) → output (λ s t m. sent t m) s ≡ scanned s
+unfolding scanned
+output_scanned s = walked_scanned false before s
+
 -- ---- a walk at a number, and at the end
 
-module _ {W : Type 0} (step : W → ℕ → W) (say : W → ℕ → List ℕ) (s : List ℕ) (w : W) (i : ℕ) where
-  -- what the numbers from place i on give, from this place of the walk
-  abbrev pub rest : List ℕ
-  rest = walked step say w (drop i s)
+module _ {T : Type 0} (say : Set → Set → ℕ → List T) (ms : List ℕ) (s t : Set) (i : ℕ) where
+  -- what the numbers from place i on give, from these sets on
+  abbrev pub rest : List T
+  rest = walked say s t (drop i ms)
 
   -- what the number at place i gives
-  abbrev here : List ℕ
-  here = say w (get_or s i 0)
+  abbrev here : List T
+  here = say s t (get_or ms i 0)
 
   -- and what those after it give
-  abbrev left : List ℕ
-  left = walked step say (step w (get_or s i 0)) (drop (i + 1) s)
+  abbrev left : List T
+  left = walked say (next s (get_or ms i 0)) (text_after s (get_or ms i 0)) (drop (i + 1) ms)
 
-  walked_here : i < length s → rest ≡ here ++ left
+  walked_here : i < length ms → rest ≡ here ++ left
   unfolding walked
-  walked_here h = rw (add-one i, drop-cons s i 0 h) refl
+  walked_here h = rw (add-one i, drop-cons ms i 0 h) refl
 
-  walked_length : i < length s → length rest ≡ length here + length left
+  walked_length : i < length ms → length rest ≡ length here + length left
   walked_length h = ap length (walked_here h) ∙ length-append here left
 
-  walked_done : length s ≤ i → rest ≡ []
+  walked_done : length ms ≤ i → rest ≡ []
   unfolding walked
-  walked_done h = rw (drop_of_length-le s h) refl
+  walked_done h = rw (drop_of_length-le ms h) refl
 
 -- ---- counting
 
 -- A loop that has counted what the numbers before place i give, n elements, and has come to this
--- set.
-pub record Counting (say : Set → ℕ → List ℕ) (s : List ℕ) (set : Set) (n i : ℕ) : Type 0 where
-  pub within : i ≤ length s
+-- set; as many are left, right after a Shift or not.
+pub record Counting {T : Type 0} (say : Set → Set → ℕ → List T) (ms : List ℕ) (s : Set) (n i : ℕ) : Type 0 where
   pub short : n ≤ 2 * i
-  pub left : n + length (rest next say s set i) ≡ length (walked next say before s)
+  pub left : n + length (rest say ms s s i) ≡ length (output say ms)
 
-pub counting_begin : {say : Set → ℕ → List ℕ} {s : List ℕ} → Counting say s before 0 0
-counting_begin = record { within = omega arith; short = omega arith; left = omega arith }
+module _ {T : Type 0} (say : Set → Set → ℕ → List T) (as_many : (s : Set) (m : ℕ) → length (say s (other s) m) ≡ length (say s s m)) where
+  as_many_shifted : (b : Bool) (s : Set) (ms : List ℕ) → length (walked say s (text_in b s) ms) ≡ length (walked say s s ms)
+  unfolding walked
+  as_many_shifted false s ms = refl
+  as_many_shifted true s [] = refl
+  as_many_shifted true s (m ∷ ms) = simp length-append (omega (arith, as_many s m))
 
-pub counting_turn : {say : Set → ℕ → List ℕ} {s : List ℕ} {set set' : Set} {n i k : ℕ} → Counting say s set n i → i < length s
-    → k ≡ length (say set (get_or s i 0)) → k ≤ 2 → set' ≡ next set (get_or s i 0) → Counting say s set' (n + k) (i + 1)
-counting_turn {say} {s} {set} {set'} {n} {i} {k} p h e b q =
-    record { within = omega arith; short = omega (arith, p.short); left = rw q (omega (arith, p.left, walked_length next say s set i h)) }
+  as_many_after : (s : Set) (m : ℕ) (ms : List ℕ) → length (walked say (next s m) (text_after s m) ms) ≡ length (walked say (next s m) (next s m) ms)
+  as_many_after s m ms = rw (text_after_lem s m) (as_many_shifted (is_shift s m) (next s m) ms)
 
-pub counting_end : {say : Set → ℕ → List ℕ} {s : List ℕ} {set : Set} {n i : ℕ} → Counting say s set n i → length s ≤ i → n ≡ length (walked next say before s)
-counting_end {say} {s} {set} {n} {i} p h = omega (arith, p.left, ap length (walked_done next say s set i h))
+  pub counting_turn : {ms : List ℕ} {s s' : Set} {n i k : ℕ} → Counting say ms s n i → i < length ms → k ≡ length (say s s (get_or ms i 0)) → k ≤ 2
+      → s' ≡ next s (get_or ms i 0) → Counting say ms s' (n + k) (i + 1)
+  counting_turn {ms} {s} {i = i} p h e b q =
+      record {
+        short = omega (arith, p.short);
+        left = rw q (omega (arith, p.left, walked_length say ms s s i h, as_many_after s (get_or ms i 0) (drop (i + 1) ms)));
+      }
+
+module _ {T : Type 0} {say : Set → Set → ℕ → List T} {ms : List ℕ} where
+  pub counting_begin : Counting say ms before 0 0
+  counting_begin = record { short = omega arith; left = omega arith }
+
+  pub counting_end : {s : Set} {n i : ℕ} → Counting say ms s n i → length ms ≤ i → n ≡ length (output say ms)
+  counting_end {s} {i = i} p h = omega (arith, p.left, ap length (walked_done say ms s s i h))
 
 -- ---- storing
 
+-- a run of stores is one run after another; `sets_append` of helpers is the same of numbers
+sets_then : {T : Type 0} → (a b l : List T) (i : ℕ) → sets l i (a ++ b) ≡ sets (sets l i a) (i + length a) b
+sets_then [] b l i = ap (λ (k : ℕ). sets l k b) (sym (add-zero i))
+sets_then (x ∷ a) b l i =
+    sets_then a b (set l i x) (suc i)
+    ∙ ap (λ (k : ℕ). sets (sets (set l i x) (suc i) a) k b) (suc-add i (length a) ∙ sym (add-suc i (length a)))
+
 -- A loop that has stored what the numbers before place i give from place 0 of l₀ on, up to place
--- `at`, and has come from w₀ to the place w of the walk.
-pub record Filling {W : Type 0} (step : W → ℕ → W) (say : W → ℕ → List ℕ) (s l₀ : List ℕ) (w₀ w : W) (l : List ℕ) (at i : ℕ) : Type 0 where
-  pub within : i ≤ length s
-  pub fits : at + length (rest step say s w i) ≤ length l
-  pub writing : Writing l₀ 0 (walked step say w₀ s) l at (rest step say s w i)
+-- `at`, and has come to these sets.
+pub record Filling {T : Type 0} (say : Set → Set → ℕ → List T) (ms : List ℕ) (l₀ : List T) (s t : Set) (l : List T) (at i : ℕ) : Type 0 where
+  pub fits : at + length (rest say ms s t i) ≤ length l
+  -- the stores that are left, made now, give what the whole run gives
+  pub left : sets l at (rest say ms s t i) ≡ sets l₀ 0 (output say ms)
 
-module _ {W : Type 0} {step : W → ℕ → W} {say : W → ℕ → List ℕ} {s : List ℕ} {w₀ : W} where
-  pub filling_begin : {l : List ℕ} → length (walked step say w₀ s) ≤ length l → Filling step say s l w₀ w₀ l 0 0
-  filling_begin h = record { within = omega arith; fits = omega arith; writing = writing_begin }
+module _ {T : Type 0} {say : Set → Set → ℕ → List T} {ms : List ℕ} {l₀ : List T} where
+  pub filling_begin : length (output say ms) ≤ length l₀ → Filling say ms l₀ before before l₀ 0 0
+  filling_begin h = record { fits = omega arith; left = refl }
 
-  pub filling_fits : {l₀ l vs : List ℕ} {w : W} {at i : ℕ} → Filling step say s l₀ w₀ w l at i → i < length s → vs ≡ say w (get_or s i 0) → at + length vs ≤ length l
-  filling_fits {w = w} {i = i} p h e = rw e (omega (arith, p.fits, walked_length step say s w i h))
+  pub filling_fits : {l vs : List T} {s t : Set} {at i : ℕ} → Filling say ms l₀ s t l at i → i < length ms → vs ≡ say s t (get_or ms i 0)
+      → at + length vs ≤ length l
+  filling_fits {s = s} {t = t} {i = i} p h e = rw e (omega (arith, p.fits, walked_length say ms s t i h))
 
-  pub filling_turn : {l₀ l vs l' : List ℕ} {w w' : W} {at i r : ℕ} → Filling step say s l₀ w₀ w l at i → i < length s
-      → vs ≡ say w (get_or s i 0) → w' ≡ step w (get_or s i 0) → Stored vs l at l' r → Filling step say s l₀ w₀ w' l' r (i + 1)
-  filling_turn {l = l} {vs = vs} {w = w} {at = at} {i = i} p h e q t =
-      let same = ap length t.stored ∙ length-sets l at vs in
+  pub filling_turn : {l l' vs : List T} {s t s' t' : Set} {at r i : ℕ} → Filling say ms l₀ s t l at i → i < length ms → vs ≡ say s t (get_or ms i 0)
+      → l' ≡ sets l at vs → r ≡ at + length vs → s' ≡ next s (get_or ms i 0) → t' ≡ text_after s (get_or ms i 0) → Filling say ms l₀ s' t' l' r (i + 1)
+  filling_turn {l = l} {vs = vs} {s = s} {t = t} {at = at} {i = i} p h e f k q u =
       record {
-        within = omega arith;
-        fits = rw q (omega (arith, p.fits, walked_length step say s w i h, same, t.next, ap length e));
-        writing = rw q (writing_block vs p.writing (walked_here step say s w i h ∙ rw e) t.stored t.next);
+        fits = rw (q, u) (omega (arith, p.fits, walked_length say ms s t i h, ap length e, ap length f, length-sets l at vs));
+        left = rw (f, k, q, u, e) (sym (sets_then (here say ms s t i) (left say ms s t i) l at) ∙ ap (sets l at) (sym (walked_here say ms s t i h)) ∙ p.left);
       }
 
-  pub filling_end : {l₀ l : List ℕ} {w : W} {at i : ℕ} → Filling step say s l₀ w₀ w l at i → length s ≤ i → l ≡ sets l₀ 0 (walked step say w₀ s)
-  filling_end {w = w} {i = i} p h = writing_end p.writing (walked_done step say s w i h)
+  pub filling_end : {l : List T} {s t : Set} {at i : ℕ} → Filling say ms l₀ s t l at i → length ms ≤ i → l ≡ sets l₀ 0 (output say ms)
+  filling_end {s = s} {t = t} {i = i} p h = rw (walked_done say ms s t i h) at p.left

@@ -1,4 +1,3 @@
-pub mod Spans
 pub mod Lookups
 pub mod Stored
 pub mod Parsing

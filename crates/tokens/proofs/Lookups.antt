@@ -1,4 +1,4 @@
--- What `lookup` answers, and what follows from it: FNC2 is set apart, and ź alone is FNC2.
+-- What follows from what `lookup` answers: FNC2 is set apart, and ź alone is FNC2.
 -- Assumes nothing.
 use Prim.Native.Nat.{ℕ}
 use mathlib.Core.Path.{◌≡◌, refl, sym, ap, ◌∙◌}
@@ -7,27 +7,21 @@ use mathlib.Core.Option.{Option, none, some}
 use native.Mathlib.Omega.{arith}
 use lib.Dec.{eqb}
 use borrow.Author.Tests.{eqb-true, eqb-false, ne_eqb}
-use Rattle.std.specs.Prelude.{if◌then◌else◌}
-use Rattle.paper.specs.Iso15417.{Set, before, A, B, C, start_of}
-use Rattle.paper.specs.Crate.{ź, in_both, spans, number_in, point_in, listed, write, free}
+use Rattle.std.specs.Prelude.{if◌then◌else◌, unwrap_or}
+use Rattle.paper.specs.Iso15417.{Set, before, A, B, C, next, start_of}
+use Rattle.paper.specs.Crate.{ź, in_both, spans, number_in, point_in, listed, halt, write, free}
 use Rattle.paper.specs.Jobs.{not_fnc2}
 use Rattle.paper.proofs.Codes.{numbers_back, next_low}
-use Rattle.tokens.specs.Sets.{lookup_of}
+use Rattle.tokens.specs.Sets.{start_in, lookup_of}
 use Rattle.tokens.specs.declared.Lookup.TheVariants.{Unit, Retired, Nothing}
 
--- a number that is not FNC2's
-pub looks : {o : Option ℕ} (m : ℕ) → o ≡ some m → (m ≡ 97 → ⊥) → Unit m ≡ lookup_of o
-unfolding lookup_of
-looks {o} m e h = rw (e, ne_eqb m 97 h) refl
-
-pub start_not_97 : (s : Set) → start_of s ≡ 97 → ⊥
-unfolding start_of
-start_not_97 before e = omega arith
-start_not_97 A e = omega arith
-start_not_97 B e = omega arith
-start_not_97 C e = omega arith
-
--- ---- and what follows from it
+-- no START is 0
+pub start_or_zero : (s : Set) → unwrap_or (start_in s) 0 ≡ start_of s
+unfolding start_in start_of
+start_or_zero before = refl
+start_or_zero A = refl
+start_or_zero B = refl
+start_or_zero C = refl
 
 looked_case : (b : Bool) (k m : ℕ) → (if b then Retired else Unit k) ≡ Unit m → (b ≡ false) × (k ≡ m)
 looked_case true k m e = absurd (let z : ◌≡◌ {A = ℕ} 0 1 = cc in omega arith)
@@ -41,7 +35,7 @@ looked_not : (b : Bool) (k : ℕ) → (if b then Retired else Unit k) ≡ Nothin
 looked_not true k e = let z : ◌≡◌ {A = ℕ} 0 1 = cc in omega arith
 looked_not false k e = let z : ◌≡◌ {A = ℕ} 0 1 = cc in omega arith
 
-pub looked_nothing : (o : Option ℕ) → Nothing ≡ lookup_of o → o ≡ none
+looked_nothing : (o : Option ℕ) → Nothing ≡ lookup_of o → o ≡ none
 unfolding lookup_of
 looked_nothing none e = refl
 looked_nothing (some k) e = absurd (looked_not (eqb k 97) k (sym e))
@@ -74,18 +68,23 @@ point_97 A c e = cc
 point_97 B c e = cc
 point_97 C c e = absurd (let z : ◌≡◌ {A = ℕ} 0 1 = cc in omega arith)
 
-pub not_ź : (c : ℕ) → (c ≡ ź → ⊥) → not_fnc2 c ≡ true
+pub not_fnc2_other : (c : ℕ) → (c ≡ ź → ⊥) → not_fnc2 c ≡ true
 unfolding not_fnc2
-not_ź c h = rw (ne_eqb c ź h) refl
+not_fnc2_other c h = rw (ne_eqb c ź h) refl
 
 module _ (s : Set) (c : ℕ) where
-  pub unit_not_ź : (m : ℕ) → Unit m ≡ lookup_of (number_in (spans s) c) → (number_in (spans s) c ≡ some m) × (not_fnc2 c ≡ true)
-  unit_not_ź m e =
+  pub unit_listed : (m : ℕ) → Unit m ≡ lookup_of (number_in (spans s) c) → (listed s (number_in (spans s) c) ≡ write m (free (next s m))) × (not_fnc2 c ≡ true)
+  unfolding listed
+  unit_listed m e =
       let (number, other) = looked_unit (number_in (spans s) c) m e in
-      (number, not_ź c (λ q. other (number_ź s m (rw q at number))))
+      (rw number refl, not_fnc2_other c (λ q. other (number_ź s m (rw q at number))))
 
   pub retired_listed : Retired ≡ lookup_of (number_in (spans s) c) → (listed s (number_in (spans s) c) ≡ write 97 (free s)) × (not_fnc2 c ≡ false)
   unfolding listed not_fnc2
   retired_listed e =
       let number = looked_retired (number_in (spans s) c) e in
       (rw (number, next_low s 97 (omega arith)) refl, rw (point_97 s c ((numbers_back s c 97).0 number)) refl)
+
+  pub nothing_listed : Nothing ≡ lookup_of (number_in (spans s) c) → listed s (number_in (spans s) c) ≡ halt
+  unfolding listed
+  nothing_listed e = rw (looked_nothing (number_in (spans s) c) e) refl

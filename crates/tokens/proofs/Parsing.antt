@@ -1,26 +1,23 @@
 -- The parser, one code point at a time, and a loop over a text that stores what it writes.
 -- Assumes nothing.
-use Prim.Native.Nat.{ℕ, suc, ◌+◌, ◌<◌, ◌≤◌, min}
+use Prim.Native.Nat.{ℕ, suc, ◌+◌, ◌<◌, ◌≤◌}
 use mathlib.Core.Path.{◌≡◌, refl, ap, ◌∙◌}
 use mathlib.Core.Bool.{true, false}
 use mathlib.Core.List.{List, [], ◌∷◌, ◌++◌}
 use native.Mathlib.Numerals.{add-one}
-use native.Mathlib.Decide.{dec_le}
-use native.Mathlib.Nat.{min-eq_left, min-eq_right}
 use native.Mathlib.Omega.{arith}
 use lib.ListN.{length, get_or, set, drop, drop_of_length-le, length-set}
 use lib.Seq.{sets, drop-cons}
-use Rattle.std.specs.Prelude.{if◌then◌else◌}
-use Rattle.helpers.specs.Answers.{passes, every}
-use Rattle.helpers.specs.Terms.{first_not}
-use Rattle.helpers.proofs.Seek.{Seeking, seek_begin, seek_turn, seek_hit, seek_end, every_refuses, every_to_end}
+use Rattle.std.specs.Prelude.{if◌then◌else◌, Option, Some, None, Ok, Err}
+use Rattle.std.specs.Option.{option_or}
+use Rattle.helpers.specs.Answers.{refuses, passes, every}
 use Rattle.paper.specs.Iso15417.{before}
 use Rattle.paper.specs.Crate.{State, free, held, Step, halt, hold, write, step, stops, symbols, with_symbol, follow, finished, parse_from, parse}
 use Rattle.paper.specs.Jobs.{not_fnc2}
 use Rattle.paper.proofs.Moves.{digit_bounds, Sound, Move, stuck, holds, lists, closes, passes_by, move}
 use Rattle.helpers.proofs.Ahead.{ahead, ahead_one, ahead_stays, ahead_all}
 use Rattle.tokens.specs.Tokens.{stored_by, stored_from, stored, Tells}
-use Rattle.tokens.specs.declared.parse.Parsed.TheVariants.{Stops, Retired, Symbols}
+use Rattle.tokens.specs.declared.parse.Unparsed.TheVariants.{Stops, Retired}
 use Rattle.tokens.proofs.Stored.{Gives, stored_turn, stored_over, stored_all}
 
 -- ---- one code point
@@ -58,9 +55,30 @@ parse_turn q x i l = rw (drop-cons x i 0 l)
 
 -- ---- a loop that stores what it parses and notes the first ź
 
--- It has come to place i of the text x in the state q, and has stored n symbols into the list that
--- held l₀. Where no ź is noted `first` is the text's length; else it is the place of the first ź.
-pub record Parsing (x l₀ l : List ℕ) (q : State) (n first i : ℕ) : Type 0 where
+-- the first ź is noted, if there is one before place i
+abbrev pub Noted : List ℕ → ℕ → Option ℕ → Type 0
+Noted x i None = every not_fnc2 19 0 x ≡ every not_fnc2 19 i (drop i x)
+Noted x i (Some at) = every not_fnc2 19 0 x ≡ refuses 19 at
+
+-- another code point goes by
+noted_by : (x : List ℕ) (i : ℕ) (first : Option ℕ) → i < length x → not_fnc2 (get_or x i 0) ≡ true → Noted x i first → Noted x (i + 1) first
+unfolding every
+noted_by x i None h u p = p ∙ rw (drop-cons x i 0 h, u, add-one i) refl
+noted_by x i (Some at) h u p = p
+
+-- a ź is noted where none is, and a later one changes nothing
+noted_there : (x : List ℕ) (i : ℕ) (first : Option ℕ) → i < length x → not_fnc2 (get_or x i 0) ≡ false → Noted x i first → Noted x (i + 1) (option_or first (Some i))
+unfolding every
+noted_there x i None h u p = p ∙ rw (drop-cons x i 0 h, u) refl
+noted_there x i (Some at) h u p = p
+
+noted_none : (x : List ℕ) (i : ℕ) → length x ≤ i → Noted x i None → every not_fnc2 19 0 x ≡ passes
+unfolding every
+noted_none x i h p = p ∙ rw (drop_of_length-le x h)
+
+-- It has come to place i of the text x in the state q, has stored n symbols into the list that held
+-- l₀, and has noted the first ź.
+pub record Parsing (x l₀ l : List ℕ) (q : State) (n : ℕ) (first : Option ℕ) (i : ℕ) : Type 0 where
   pub within : i ≤ length x
   pub few : n ≤ i
   pub sound : Sound q
@@ -70,10 +88,9 @@ pub record Parsing (x l₀ l : List ℕ) (q : State) (n first i : ℕ) : Type 0 
   -- the stores that are left, made now, give what the whole run gives
   pub left : sets l n (stored_from q (drop i x)) ≡ sets l₀ 0 (stored x)
   pub count : n + length (stored_from q (drop i x)) ≡ length (stored x)
-  pub clear : length x ≤ first → Seeking not_fnc2 x 0 i
-  pub noted : first < length x → (first < i) × (first ≡ first_not not_fnc2 0 x)
+  pub noted : Noted x i first
 
-pub parsing_begin : {x l : List ℕ} → Parsing x l l (free before) 0 (length x) 0
+pub parsing_begin : {x l : List ℕ} → Parsing x l l (free before) 0 None 0
 unfolding parse ahead stored
 parsing_begin =
     record {
@@ -85,15 +102,10 @@ parsing_begin =
       long = refl;
       left = refl;
       count = omega arith;
-      clear = λ h. seek_begin (omega arith);
-      noted = λ h. absurd (omega arith);
+      noted = refl;
     }
 
-module _ {x l₀ l : List ℕ} {q : State} {n first i : ℕ} (p : Parsing x l₀ l q n first i) where
-  -- a code point other than ź goes by: what is noted stays
-  kept : first < length x → (first < i + 1) × (first ≡ first_not not_fnc2 0 x)
-  kept h = let both = p.noted h in (omega (arith, both.0), both.1)
-
+module _ {x l₀ l : List ℕ} {q : State} {n : ℕ} {first : Option ℕ} {i : ℕ} (p : Parsing x l₀ l q n first i) where
   pub parsing_hold : i < length x → {d : ℕ} → (step q (get_or x i 0) ≡ hold d) × (not_fnc2 (get_or x i 0) ≡ true) → Parsing x l₀ l (held d) n first (i + 1)
   unfolding follow stored_by
   parsing_hold h {d} (e, u) =
@@ -107,8 +119,7 @@ module _ {x l₀ l : List ℕ} {q : State} {n first i : ℕ} (p : Parsing x l₀
         long = p.long;
         left = rw same at p.left;
         count = rw same at p.count;
-        clear = λ k. seek_turn (p.clear k) h u;
-        noted = kept;
+        noted = noted_by x i first h u p.noted;
       }
 
   -- a symbol more, of any code point
@@ -130,21 +141,12 @@ module _ {x l₀ l : List ℕ} {q : State} {n first i : ℕ} (p : Parsing x l₀
         long = length-set l n m ∙ p.long;
         left = rw (add-one n) (rw more at p.left);
         count = omega (arith, rw more at p.count);
-        clear = λ k. seek_turn (p.clear k) h u;
-        noted = kept;
+        noted = noted_by x i first h u p.noted;
       }
 
-  -- the first ź is noted, and a later one changes nothing
-  retired_noted : i < length x → not_fnc2 (get_or x i 0) ≡ false → (min first i < i + 1) × (min first i ≡ first_not not_fnc2 0 x)
-  retired_noted h u = elim (dec_le (length x) first) [
-    | yes none ↦ (rw (min-eq_right {n = i} {m = first} (omega arith)) (omega arith), min-eq_right {n = i} {m = first} (omega arith) ∙ seek_hit (p.clear none) h u)
-    | no some ↦ let both = p.noted (omega arith) in (rw (min-eq_left {n = first} {m = i} (omega (arith, both.0))) (omega (arith, both.0)), min-eq_left {n = first} {m = i} (omega (arith, both.0)) ∙ both.1)
-  ]
-
-  pub parsing_retired : i < length x → (step q (get_or x i 0) ≡ write 97 q) × (not_fnc2 (get_or x i 0) ≡ false) → Parsing x l₀ l q n (min first i) (i + 1)
+  pub parsing_retired : i < length x → (step q (get_or x i 0) ≡ write 97 q) × (not_fnc2 (get_or x i 0) ≡ false) → Parsing x l₀ l q n (option_or first (Some i)) (i + 1)
   unfolding stored_by
   parsing_retired h (e, u) =
-      let both = retired_noted h u in
       let same : stored_from q (drop i x) ≡ stored_from q (drop (i + 1) x) = rw (stored_turn q x i h, e, u, add-one i) refl in
       record {
         within = omega arith;
@@ -155,15 +157,14 @@ module _ {x l₀ l : List ℕ} {q : State} {n first i : ℕ} (p : Parsing x l₀
         long = p.long;
         left = rw same at p.left;
         count = rw same at p.count;
-        clear = λ k. absurd (omega (arith, both.0));
-        noted = λ k. both;
+        noted = noted_there x i first h u p.noted;
       }
 
   -- nothing is left to store
   all_stored : stored_from q (drop i x) ≡ [] → (l ≡ sets l₀ 0 (stored x)) × (n ≡ length (stored x))
   all_stored none = (rw none at p.left, omega (arith, rw none at p.count))
 
-  pub parsing_halt : i < length x → step q (get_or x i 0) ≡ halt → Gives (Stops i) x l₀ l
+  pub parsing_halt : i < length x → step q (get_or x i 0) ≡ halt → Gives (Err (Stops i)) x l₀ l
   unfolding follow stored_by Tells
   parsing_halt h e = (p.rest ∙ rw (parse_turn q x i h, e) (puts_stops p.done i), (all_stored (rw (stored_turn q x i h, e) refl)).0)
 
@@ -174,19 +175,19 @@ module _ {x l₀ l : List ℕ} {q : State} {n first i : ℕ} (p : Parsing x l₀
   ended : length x ≤ i → finished q ≡ true → parse x ≡ symbols p.done
   ended h e = p.rest ∙ rw (over h, e) (puts_end p.done)
 
-  pub parsing_end : length x ≤ i → finished q ≡ true → i ≤ first → Gives (Symbols n) x l₀ l
+  pub parsing_end : length x ≤ i → finished q ≡ true → first ≡ None → Gives (Ok n) x l₀ l
   unfolding Tells
   parsing_end h e k =
-      let clear : every not_fnc2 19 0 x ≡ passes = every_to_end not_fnc2 19 0 x (omega (arith, seek_end (p.clear (omega arith)) h)) in
+      let clear : every not_fnc2 19 0 x ≡ passes = noted_none x i h (rw k at p.noted) in
       let (put, count) = all_stored (stored_over q x i h) in
       ((p.done, ended h e, clear, count ∙ ap length (stored_all x p.done (ended h e) clear)), put)
 
-  pub parsing_noted : length x ≤ i → finished q ≡ true → first < i → Gives (Retired first) x l₀ l
+  pub parsing_noted : length x ≤ i → finished q ≡ true → {at : ℕ} → first ≡ Some at → Gives (Err (Retired at)) x l₀ l
   unfolding Tells
-  parsing_noted h e k =
-      let both = p.noted (omega (arith, p.within)) in
-      ((p.done, ended h e, rw both.1 (every_refuses not_fnc2 19 0 x (omega (arith, p.within)))), (all_stored (stored_over q x i h)).0)
+  parsing_noted h e k = ((p.done, ended h e, rw k at p.noted), (all_stored (stored_over q x i h)).0)
 
-  pub parsing_short : length x ≤ i → finished q ≡ false → Gives (Stops i) x l₀ l
+  pub parsing_short : length x ≤ i → finished q ≡ false → Gives (Err (Stops (length x))) x l₀ l
   unfolding Tells
-  parsing_short h e = (p.rest ∙ rw (over h, e) (puts_stops p.done i), (all_stored (stored_over q x i h)).0)
+  parsing_short h e =
+      let end : i ≡ length x = omega (arith, p.within) in
+      (p.rest ∙ rw (over h, e) (puts_stops p.done i) ∙ ap stops end, (all_stored (stored_over q x i h)).0)

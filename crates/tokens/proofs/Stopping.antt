@@ -1,17 +1,18 @@
 -- What encode answers where parsing stops: UTF-8 bytes, and one law for each way out.
 -- Assumes nothing.
-use Prim.Native.Nat.{ℕ, ◌+◌, ◌<◌, ◌≤◌}
+use Prim.Native.Nat.{ℕ, ◌+◌, ◌<◌}
 use mathlib.Core.Path.{◌≡◌, refl}
-use mathlib.Core.Bool.{true, false}
+use mathlib.Core.Bool.{Bool, true, false, not}
 use mathlib.Core.List.{List, [], ◌∷◌}
 use native.Mathlib.Decide.{dec_le}
 use native.Mathlib.Omega.{arith}
+use native.Mathlib.Nat.{zero-add}
 use lib.Dec.{leb}
 use lib.ListN.{length, get_or}
 use borrow.Author.Tests.{le-leb, lt-leb}
+use Rattle.std.specs.Prelude.{Some, None, position}
 use Rattle.helpers.specs.Answers.{refuse, ◌then◌, ask}
-use Rattle.helpers.specs.Terms.{first_not}
-use Rattle.helpers.proofs.Seek.{every_refuses, every_to_end}
+use Rattle.helpers.proofs.Found.{every_found, every_passed}
 use Rattle.paper.specs.Crate.{utf8_of, utf8_bytes, is_scalar}
 use Rattle.paper.proofs.Utf8.{one_byte, low_byte, high_bytes}
 use Rattle.tokens.specs.Stopped.{stopped_at}
@@ -41,15 +42,22 @@ two_bytes_many (c ∷ d ∷ x) h = le-leb 2 (utf8_of c + (utf8_of d + utf8_bytes
 
 -- ---- where parsing stops
 
+-- is it no scalar value?
+abbrev pub no_scalar : ℕ → Bool
+no_scalar c = not (is_scalar c)
+
+apart : (c : ℕ) → is_scalar c ≡ not (no_scalar c)
+apart c = elim (is_scalar c) as (λ b. b ≡ not (not b)) [ true ↦ refl | false ↦ refl ]
+
 module _ (x : List ℕ) (at : ℕ) where
-  pub stopped_scalar : first_not is_scalar 0 x < length x → stopped_at x at ≡ refuse 1 (first_not is_scalar 0 x)
+  pub stopped_scalar : {j : ℕ} → position no_scalar x ≡ Some j → stopped_at x at ≡ refuse 1 j
   unfolding stopped_at ◌then◌
-  stopped_scalar h = rw (every_refuses is_scalar 1 0 x (omega arith))
+  stopped_scalar {j} e = rw (every_found is_scalar no_scalar apart 1 0 x e, zero-add j)
 
-  pub stopped_bytes : length x ≤ first_not is_scalar 0 x → leb 2 (utf8_bytes x) ≡ false → stopped_at x at ≡ refuse 2 0
+  pub stopped_bytes : position no_scalar x ≡ None → leb 2 (utf8_bytes x) ≡ false → stopped_at x at ≡ refuse 2 0
   unfolding stopped_at ◌then◌ ask
-  stopped_bytes h e = rw (every_to_end is_scalar 1 0 x (omega arith), e)
+  stopped_bytes e f = rw (every_passed is_scalar no_scalar apart 1 0 x e, f)
 
-  pub stopped_there : length x ≤ first_not is_scalar 0 x → leb 2 (utf8_bytes x) ≡ true → stopped_at x at ≡ refuse 3 at
+  pub stopped_there : position no_scalar x ≡ None → leb 2 (utf8_bytes x) ≡ true → stopped_at x at ≡ refuse 3 at
   unfolding stopped_at ◌then◌ ask
-  stopped_there h e = rw (every_to_end is_scalar 1 0 x (omega arith), e)
+  stopped_there e f = rw (every_passed is_scalar no_scalar apart 1 0 x e, f)

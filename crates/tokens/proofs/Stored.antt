@@ -8,15 +8,15 @@ use mathlib.Core.List.{List, [], ◌∷◌}
 use native.Mathlib.Omega.{arith}
 use lib.ListN.{length, get_or, drop, drop_of_length-le}
 use lib.Seq.{sets, drop-cons}
-use Rattle.std.specs.Prelude.{if◌then◌else◌}
+use Rattle.std.specs.Prelude.{if◌then◌else◌, Result, Ok, Err}
 use Rattle.helpers.specs.Answers.{Test, refuses, passes, every}
 use Rattle.paper.specs.Iso15417.{before}
 use Rattle.paper.specs.Crate as Crate
 use Rattle.paper.specs.Crate.{State, free, held, Step, halt, hold, write, step, stops, symbols, with_symbol, follow, finished, parse_from, parse}
 use Rattle.paper.specs.Jobs.{not_fnc2}
 use Rattle.tokens.specs.Tokens.{stored_by, stored_from, stored, Tells, Tokens}
-use Rattle.tokens.specs.declared.parse.Parsed.{Parsed}
-use Rattle.tokens.specs.declared.parse.Parsed.TheVariants.{Stops, Retired, Symbols}
+use Rattle.tokens.specs.declared.parse.Unparsed.{Unparsed}
+use Rattle.tokens.specs.declared.parse.Unparsed.TheVariants.{Stops, Retired}
 
 -- ---- from place i on
 
@@ -69,26 +69,30 @@ stored_all x s p h = rw p at (whole (free before) 0 x h)
 
 -- ---- any two results that the contract allows are equal
 
-abbrev told : Crate.Parsed → Test → Parsed
-told (stops at) t = Stops at
-told (symbols s) (refuses k at) = Retired at
-told (symbols s) passes = Symbols (length s)
+abbrev told : Crate.Parsed → Test → Result ℕ Unparsed
+told (stops at) t = Err (Stops at)
+told (symbols s) (refuses k at) = Err (Retired at)
+told (symbols s) passes = Ok (length s)
 
-tells_told : (r : Parsed) (x : List ℕ) → Tells r x → r ≡ told (parse x) (every not_fnc2 19 0 x)
+tells_told : (r : Result ℕ Unparsed) (x : List ℕ) → Tells r x → r ≡ told (parse x) (every not_fnc2 19 0 x)
 unfolding Tells
-tells_told (Stops at) x p = rw p refl
-tells_told (Retired at) x (s, p, e) = rw (p, e) refl
-tells_told (Symbols n) x (s, p, e, k) = rw (p, e, k) refl
+tells_told (Err (Stops at)) x p = rw p refl
+tells_told (Err (Retired at)) x (s, p, e) = rw (p, e) refl
+tells_told (Ok n) x (s, p, e, k) = rw (p, e, k) refl
 
 -- both of what `parse` promises
-abbrev pub Gives : Parsed → List ℕ → List ℕ → List ℕ → Type 0
+abbrev pub Gives : Result ℕ Unparsed → List ℕ → List ℕ → List ℕ → Type 0
 Gives r x l m = Tells r x × (m ≡ sets l 0 (stored x))
 
-pub gives_tokens : (r : Parsed) (x l m : List ℕ) → Gives r x l m → Tokens r x l m
+pub gives_tokens : (r : Result ℕ Unparsed) (x l m : List ℕ) → Gives r x l m → Tokens r x l m
 unfolding Tells Tokens
-gives_tokens (Stops at) x l m (t, e) = t
-gives_tokens (Retired at) x l m (t, e) = t
-gives_tokens (Symbols n) x l m ((s, p, u, k), e) = (s, p, u, k, e ∙ ap (sets l 0) (stored_all x s p u))
+gives_tokens (Err (Stops at)) x l m (t, e) = t
+gives_tokens (Err (Retired at)) x l m (t, e) = t
+gives_tokens (Ok n) x l m ((s, p, u, k), e) = (s, p, u, k, e ∙ ap (sets l 0) (stored_all x s p u))
 
-pub tokens_one : (r r' : Parsed) (x l m m' : List ℕ) → Gives r x l m → Gives r' x l m' → (r ≡ r') × (m ≡ m')
+-- as `parse` promises it, by clauses
+pub gives_both : (r : Result ℕ Unparsed) (x l m : List ℕ) → Gives r x l m → record { tokens : Tokens r x l m; stored : m ≡ sets l 0 (stored x) }
+gives_both r x l m both = record { tokens = gives_tokens r x l m both; stored = both.1 }
+
+pub tokens_one : (r r' : Result ℕ Unparsed) (x l m m' : List ℕ) → Gives r x l m → Gives r' x l m' → (r ≡ r') × (m ≡ m')
 tokens_one r r' x l m m' (t, e) (t', e') = (tells_told r x t ∙ sym (tells_told r' x t'), e ∙ sym e')

@@ -1,9 +1,10 @@
 -- The crate's `CharacterSet` is the paper's code set.
 -- Assumes nothing.
+use Rattle.std.specs.Prelude as Std
 use Rattle.std.specs.Prelude.{ℕ, eqb, if◌then◌else◌}
 use Rattle.std.proofs.Math.Option.{Option, none, some}
 use Rattle.paper.specs.Iso15417 as Iso
-use Rattle.paper.specs.Iso15417.{Set}
+use Rattle.paper.specs.Iso15417.{Set, start_of}
 use Rattle.paper.specs.Crate.{À, Ɓ, Ć}
 use Rattle.tokens.specs.declared.CharacterSet.{CharacterSet}
 use Rattle.tokens.specs.declared.CharacterSet.TheVariants.{A, B, C, None}
@@ -21,6 +22,10 @@ set_of None = Iso.before
 -- names
 unfoldable pub named : ℕ → Set
 named c = if eqb c À then Iso.A else if eqb c Ɓ then Iso.B else if eqb c Ć then Iso.C else Iso.before
+
+-- the START of a set, if it has one: before the START there is none
+unfoldable pub start_in : Set → Std.Option ℕ
+start_in s = if eqb (start_of s) 0 then Std.None else Std.Some (start_of s)
 
 -- what `lookup` answers for a number: 97 is FNC2, set apart
 unfoldable pub lookup_of : Option ℕ → Lookup

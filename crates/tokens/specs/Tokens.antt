@@ -1,6 +1,6 @@
 -- The parser's types are the paper's.
 -- Document 01, "Tokens and character sets". Assumes nothing.
-use Rattle.std.specs.Prelude.{ℕ, ◌≡◌, true, false, List, [], ◌∷◌, length, if◌then◌else◌}
+use Rattle.std.specs.Prelude.{ℕ, ◌≡◌, true, false, List, [], ◌∷◌, length, if◌then◌else◌, Result, Ok, Err}
 use Rattle.std.proofs.lemmas.List.Edits.{sets}
 use Rattle.helpers.specs.Answers.{refuses, passes, every}
 use Rattle.paper.specs.Iso15417.{before}
@@ -12,9 +12,8 @@ use Rattle.tokens.specs.declared.parse.State.{State}
 use Rattle.tokens.specs.declared.parse.State.TheVariants.{Free, Held}
 use Rattle.tokens.specs.declared.parse.Token.{Token}
 use Rattle.tokens.specs.declared.parse.Token.TheVariants.{Halt, Hold, Write, Retired}
-use Rattle.tokens.specs.declared.parse.Parsed.{Parsed}
-use Rattle.tokens.specs.declared.parse.Parsed.TheVariants as Gives
-use Rattle.tokens.specs.declared.parse.Parsed.TheVariants.{Stops, Symbols}
+use Rattle.tokens.specs.declared.parse.Unparsed.{Unparsed}
+use Rattle.tokens.specs.declared.parse.Unparsed.TheVariants as No
 
 -- the parser between two code points
 unfoldable pub state_of : State → Crate.State
@@ -45,14 +44,14 @@ stored x = stored_from (free before) x
 
 -- what `parse` answers for the text x: the place where parsing stops; else that of the first ź;
 -- else the number of symbols
-unfoldable pub Tells : Parsed → List ℕ → Type 0
-Tells (Stops at) x = parse x ≡ stops at
-Tells (Gives.Retired at) x = (s : List ℕ) × (parse x ≡ symbols s) × (every not_fnc2 19 0 x ≡ refuses 19 at)
-Tells (Symbols n) x = (s : List ℕ) × (parse x ≡ symbols s) × (every not_fnc2 19 0 x ≡ passes) × (n ≡ length s)
+unfoldable pub Tells : Result ℕ Unparsed → List ℕ → Type 0
+Tells (Err (No.Stops at)) x = parse x ≡ stops at
+Tells (Err (No.Retired at)) x = (s : List ℕ) × (parse x ≡ symbols s) × (every not_fnc2 19 0 x ≡ refuses 19 at)
+Tells (Ok n) x = (s : List ℕ) × (parse x ≡ symbols s) × (every not_fnc2 19 0 x ≡ passes) × (n ≡ length s)
 
 -- What `parse` gives for the text x: the place where parsing stops; else that of the first ź; else
 -- the number of symbols, which are stored into the list that held `l`, as far as it reaches.
-unfoldable pub Tokens : Parsed → List ℕ → List ℕ → List ℕ → Type 0
-Tokens (Stops at) x l m = parse x ≡ stops at
-Tokens (Gives.Retired at) x l m = (s : List ℕ) × (parse x ≡ symbols s) × (every not_fnc2 19 0 x ≡ refuses 19 at)
-Tokens (Symbols n) x l m = (s : List ℕ) × (parse x ≡ symbols s) × (every not_fnc2 19 0 x ≡ passes) × (n ≡ length s) × (m ≡ sets l 0 s)
+unfoldable pub Tokens : Result ℕ Unparsed → List ℕ → List ℕ → List ℕ → Type 0
+Tokens (Err (No.Stops at)) x l m = parse x ≡ stops at
+Tokens (Err (No.Retired at)) x l m = (s : List ℕ) × (parse x ≡ symbols s) × (every not_fnc2 19 0 x ≡ refuses 19 at)
+Tokens (Ok n) x l m = (s : List ℕ) × (parse x ≡ symbols s) × (every not_fnc2 19 0 x ≡ passes) × (n ≡ length s) × (m ≡ sets l 0 s)

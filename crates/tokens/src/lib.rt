@@ -6,16 +6,17 @@ ghost use Rattle.std.specs.Prelude.{◌≡◌};
 ghost use Rattle.helpers.specs.Terms.{answers};
 ghost use Rattle.paper.specs.Iso15417.{next, start_of};
 ghost use Rattle.paper.specs.Crate.{spans, number_in};
-ghost use Rattle.tokens.specs.Sets.{set_of, named, lookup_of};
+ghost use Rattle.tokens.specs.Sets.{set_of, named, start_in, lookup_of};
 ghost use Rattle.tokens.specs.Stopped.{stopped_at};
 
-use helpers::{Answer, Refusal};
+use helpers::Refusal;
 
 mod numbers;
 pub mod parse;
 mod unicode;
 
 // The three character sets, and `None` before the START.
+// Stays: the crate's type has the case `None`; in an Option there would be a second one beside it.
 #[derive(Clone, Copy)]
 pub enum CharacterSet {
     A,
@@ -26,6 +27,7 @@ pub enum CharacterSet {
 
 // What a code point is in a set: a symbol's number; FNC2, which is retired and whose number is 97;
 // or nothing.
+// Stays: three cases; an Option of the first two would wrap every arm of the sets twice.
 #[derive(Clone, Copy)]
 pub enum Lookup {
     Unit(u8),
@@ -55,15 +57,24 @@ impl CharacterSet {
     }
 
     // The number of the set's START, 0 for `None`.
-    #[tactic(auto, unfolding(crate::specs::Sets::set_of, paper::specs::Iso15417::start_of))]
+    // Stays: public, and it gives a number for each set; `start` is the one that the code asks.
+    #[tactic(auto, using(crate::proofs::Lookups::start_or_zero))]
     pub fn index(self) -> u8
         ensures { result ≡ start_of (set_of self) }
     {
+        self.start().unwrap_or(0)
+    }
+
+    // The number of the set's START; `None` has none.
+    #[tactic(auto, unfolding(crate::specs::Sets::set_of, crate::specs::Sets::start_in, paper::specs::Iso15417::start_of))]
+    pub(crate) fn start(self) -> Option<u8>
+        ensures { result ≡ start_in (set_of self) }
+    {
         match self {
-            CharacterSet::A => Self::START_A,
-            CharacterSet::B => Self::START_B,
-            CharacterSet::C => Self::START_C,
-            CharacterSet::None => 0,
+            CharacterSet::A => Some(Self::START_A),
+            CharacterSet::B => Some(Self::START_B),
+            CharacterSet::C => Some(Self::START_C),
+            CharacterSet::None => None,
         }
     }
 
@@ -88,46 +99,28 @@ impl CharacterSet {
     pub fn next(self, m: u8) -> CharacterSet
         ensures { set_of result ≡ next (set_of self) m }
     {
-        if m < 99 {
-            return self;
-        }
-        match self {
-            CharacterSet::A => match m {
-                99 => CharacterSet::C,
-                100 => CharacterSet::B,
-                _ => CharacterSet::A,
-            },
-            CharacterSet::B => match m {
-                99 => CharacterSet::C,
-                101 => CharacterSet::A,
-                _ => CharacterSet::B,
-            },
-            CharacterSet::C => match m {
-                100 => CharacterSet::B,
-                101 => CharacterSet::A,
-                _ => CharacterSet::C,
-            },
-            CharacterSet::None => match m {
-                103 => CharacterSet::A,
-                104 => CharacterSet::B,
-                105 => CharacterSet::C,
-                _ => CharacterSet::None,
-            },
+        match (self, m) {
+            (_, ..99) => self,
+            (CharacterSet::A | CharacterSet::B, 99) | (CharacterSet::None, Self::START_C) =>
+                CharacterSet::C,
+            (CharacterSet::A | CharacterSet::C, 100) | (CharacterSet::None, Self::START_B) =>
+                CharacterSet::B,
+            (CharacterSet::B | CharacterSet::C, 101) | (CharacterSet::None, Self::START_A) =>
+                CharacterSet::A,
+            _ => self,
         }
     }
 }
 
 // What encode answers where parsing stops: 1 and 2, each asked over the whole input, and else 3 at
 // that place.
-pub fn stopped(text: &[u32], place: usize) -> Answer
-    ensures { answers result ≡ stopped_at text.now place }
+#[tactic(auto, using(crate::proofs::Stopping::stopped_scalar, crate::proofs::Stopping::stopped_bytes, crate::proofs::Stopping::stopped_there), unfolding(helpers::specs::Terms::answers, helpers::specs::Numbers::refusal_number))]
+pub fn stopped(text: &[u32], place: usize) -> Refusal
+    ensures { answers (Err result) ≡ stopped_at text.now place }
 {
-    let at = unicode::first_no_scalar(text);
-    if at < text.len() {
-        return Answer::Refused(Refusal::Scalar, at);
+    match unicode::first_no_scalar(text) {
+        Some(at) => Refusal::Scalar(at),
+        None if unicode::has_two_bytes(text) => Refusal::Character(place),
+        None => Refusal::Length(0),
     }
-    if !unicode::has_two_bytes(text) {
-        return Answer::Refused(Refusal::Length, 0);
-    }
-    Answer::Refused(Refusal::Character, place)
 }

@@ -1,10 +1,8 @@
--- `cases::read_full` is safe and ends: each turn fills more.
--- Assumes nothing.
-use Rattle.std.proofs.Common.{◌≡◌, ◌-◌, ◌≤◌, length}
+use Rattle.std.proofs.Common.{length, ◌-◌, ◌≤◌}
 use Rattle.cases.proofs.read_full.Given as goal
 
 abbrev pub invariant-loop-done : goal.invariant-loop-done
-invariant-loop-done g l = (l.done ≤ length l.input) × (length l.input ≡ length l.initial.input)
+invariant-loop-done g l = l.done ≤ length l.input
 
 abbrev pub decreases-loop-done : goal.decreases-loop-done
 decreases-loop-done g l = length l.initial.input - l.done

@@ -5,15 +5,19 @@ use native.Mathlib.Omega.{arith}
 use Rattle.code128.proofs.Encodes.{listed_stops, listed_retired, listed_long, listed_fits}
 use Rattle.code128.proofs.list_symbols.Goals as goal
 
-pub returns-then-n-gt-MOST : goal.returns-then-n-gt-MOST
-returns-then-n-gt-MOST c = listed_long _ _ _ _ c.parse.ensures.tokens _ c.in-Symbols.is (omega arith)
+pub returns-in-Ok : goal.returns-in-Ok
+returns-in-Ok c = listed_long _ _ _ _ (c.in-Ok.ensures).tokens (omega arith)
 
-pub returns-in-Stops : goal.returns-in-Stops
-returns-in-Stops c = listed_stops _ _ _ _ c.parse.ensures.tokens _ _ c.in-Stops.is c.stopped.ensures
+pub returns-in-Err-Stops : goal.returns-in-Err-Stops
+returns-in-Err-Stops c =
+    let told = c.in-Err-Stops.ensures in
+    listed_stops _ _ _ _ (rw c.in-Err-Stops.field-0-is at told.tokens) _ c.stopped.ensures
 
-pub returns-in-Retired : goal.returns-in-Retired
-returns-in-Retired c = listed_retired _ _ _ _ c.parse.ensures.tokens _ c.in-Retired.is
+pub returns-in-Err-Retired : goal.returns-in-Err-Retired
+returns-in-Err-Retired c =
+    let told = c.in-Err-Retired.ensures in
+    listed_retired _ _ _ _ (rw c.in-Err-Retired.field-0-is at told.tokens)
 
-pub returns-else-n-gt-MOST : goal.returns-else-n-gt-MOST
-returns-else-n-gt-MOST c =
-    listed_fits _ _ _ _ c.parse.ensures.tokens _ c.in-Symbols.is (omega arith) c.requires (omega (arith, c.parse.auto))
+pub returns-in-Ok-2 : goal.returns-in-Ok-2
+returns-in-Ok-2 c =
+    listed_fits _ _ _ _ (c.in-Ok.ensures).tokens (omega arith) c.requires (omega (arith, c.parse.auto))

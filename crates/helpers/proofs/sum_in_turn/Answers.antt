@@ -4,8 +4,8 @@ use native.Mathlib.Omega.{arith}
 use Rattle.helpers.proofs.Sums.{summing_turn, summing_end}
 use Rattle.helpers.proofs.sum_in_turn.Goals as goal
 
-pub loop-i-preserved : goal.loop-i-preserved
-loop-i-preserved c = summing_turn c.loop-i.invariant (omega arith) (omega (arith, c.type_inv.part c.loop-i.i))
+pub loop-digit-preserved : goal.loop-digit-preserved
+loop-digit-preserved c = rw c.from.ensures (summing_turn c.loop-digit.invariant (omega arith) (omega (arith, c.type_inv.part c.loop-digit.digit-index)))
 
 pub returns : goal.returns
-returns c = (summing_end c.loop-i.invariant (omega arith), (let p = c.loop-i.invariant in omega (arith, p.small, p.within)))
+returns c = (summing_end c.loop-digit.invariant (omega arith), (let p = c.loop-digit.invariant in omega (arith, p.small, p.within)))

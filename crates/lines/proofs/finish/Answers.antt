@@ -1,30 +1,15 @@
 -- `lines::finish` meets its contract: the buffer says what the line gives.
 -- Assumes nothing.
 use native.Mathlib.Omega.{arith}
-use Rattle.line.proofs.Texts.{wrote_within}
-use Rattle.lines.specs.Given.{bytes_of}
+use Rattle.std.proofs.Common.{rules}
 use Rattle.lines.proofs.Feeds.{finish_none, finish_room, finish_line}
 use Rattle.lines.proofs.finish.Goals as goal
 
-pub returns-then-n-lt1-clause-by_index : goal.returns-then-n-lt1-clause-by_index
-returns-then-n-lt1-clause-by_index c cur h = finish_none _ c.shorter-n.ensures c.if-n-lt1.true h
+pub returns-then-is_empty-clause-by_index : goal.returns-then-is_empty-clause-by_index
+returns-then-is_empty-clause-by_index c cur h = finish_none c.as_slice-held.ensures h _ (search rules)
 
-pub returns-then-n-lt1-clause-result_in_bounds : goal.returns-then-n-lt1-clause-result_in_bounds
-unfolding bytes_of
-returns-then-n-lt1-clause-result_in_bounds c = omega arith
+pub returns-in-0-clause-by_index : goal.returns-in-0-clause-by_index
+returns-in-0-clause-by_index c cur h = finish_room c.as_slice-held.ensures h (search rules) c.answer_line.ensures (omega arith)
 
-pub returns-then-written-lt1-clause-by_index : goal.returns-then-written-lt1-clause-by_index
-returns-then-written-lt1-clause-by_index c cur h =
-    finish_room c.shorter-n.ensures (omega arith) c.answer_line-written.ensures h c.if-written-lt1.true
-
-pub returns-then-written-lt1-clause-result_in_bounds : goal.returns-then-written-lt1-clause-result_in_bounds
-unfolding bytes_of
-returns-then-written-lt1-clause-result_in_bounds c = omega arith
-
-pub returns-clause-by_index : goal.returns-clause-by_index
-returns-clause-by_index c cur h =
-    finish_line c.shorter-n.ensures (omega arith) c.answer_line-written.ensures h (omega arith)
-
-pub returns-clause-result_in_bounds : goal.returns-clause-result_in_bounds
-unfolding bytes_of
-returns-clause-result_in_bounds c = wrote_within c.answer_line-written.ensures
+pub returns-in_default-clause-by_index : goal.returns-in_default-clause-by_index
+returns-in_default-clause-by_index c cur h = finish_line c.as_slice-held.ensures h (search rules) c.answer_line.ensures (search rules)

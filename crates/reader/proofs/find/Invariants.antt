@@ -1,15 +1,8 @@
-use Prim.Native.Nat.{◌-◌}
-use Rattle.reader.proofs.Finds.{part, Matching, Hunting}
+use Rattle.reader.proofs.Finds.{Matching, Hunting}
 use Rattle.reader.proofs.find.Given as goal
 
-abbrev pub invariant-cells : goal.invariant-cells
-invariant-cells l = Matching l.pattern l.block l.j
+abbrev pub invariant-patterns : goal.invariant-patterns
+invariant-patterns l = Hunting l.cells l.s
 
-abbrev pub decreases-cells : goal.decreases-cells
-decreases-cells l = 11 - l.j
-
-abbrev pub invariant-search : goal.invariant-search
-invariant-search l = Hunting (part l.row l.at) l.s
-
-abbrev pub decreases-search : goal.decreases-search
-decreases-search l = 106 - l.s
+abbrev pub invariant-loop-j : goal.invariant-loop-j
+invariant-loop-j l = Matching l.pattern l.block l.j

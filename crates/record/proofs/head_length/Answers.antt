@@ -8,5 +8,5 @@ use Rattle.record.proofs.head_length.Goals as goal
 pub returns-then-n-le-ONE_BYTE : goal.returns-then-n-le-ONE_BYTE
 returns-then-n-le-ONE_BYTE c = sym (head_short c.args.n (omega arith))
 
-pub returns : goal.returns
-returns c = sym (head_long c.args.n (omega arith))
+pub returns-else-n-le-ONE_BYTE : goal.returns-else-n-le-ONE_BYTE
+returns-else-n-le-ONE_BYTE c = sym (head_long c.args.n (omega arith))

@@ -1,30 +1,22 @@
--- `record::record_length` meets its contract: no symbols, or some.
+-- `record::record_length` meets its contract: the head, and the bytes of the cells.
 -- Assumes nothing.
 use native.Mathlib.Omega.{arith}
-use borrow.Author.Tests.{lt-leb}
 use Rattle.paper.specs.Jobs.{most}
 use Rattle.paper.proofs.Records.{head_size}
-use Rattle.record.specs.Tested.{length_for}
-use Rattle.record.proofs.Counts.{length_some, length_needed}
+use Rattle.record.proofs.Counts.{length_needed}
 use Rattle.record.proofs.record_length.Goals as goal
 
-pub returns-then-n-lt1 : goal.returns-then-n-lt1
-unfolding length_for
-returns-then-n-lt1 c = rw (lt-leb 1 c.args.n (omega arith))
-
-pub overflow_mul-result : goal.overflow_mul-result
+pub overflow_mul-n : goal.overflow_mul-n
 unfolding most
-overflow_mul-result c = omega arith
+overflow_mul-n c = omega arith
+
+pub overflow_add-n : goal.overflow_add-n
+unfolding most
+overflow_add-n c = omega arith
 
 pub overflow_add-result : goal.overflow_add-result
 unfolding most
-overflow_add-result c = omega arith
-
-pub overflow_add-result-2 : goal.overflow_add-result-2
-unfolding most
-overflow_add-result-2 c = omega (arith, head_size c.args.n)
+overflow_add-result c = omega (arith, head_size c.args.n)
 
 pub returns : goal.returns
-returns c =
-    let n = c.args.n in
-    omega (arith, length_some n (omega arith), length_needed n)
+returns c = omega (arith, length_needed c.args.n)

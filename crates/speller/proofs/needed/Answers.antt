@@ -8,18 +8,19 @@ use Rattle.speller.proofs.Says.{said_short}
 use Rattle.speller.proofs.Walks.{counting_begin, counting_turn, counting_end}
 use Rattle.speller.proofs.needed.Goals as goal
 
-pub loop-i-init : goal.loop-i-init
+pub loop-m-init : goal.loop-m-init
 unfolding set_of
-loop-i-init c = counting_begin
+loop-m-init g c = counting_begin
 
 pub overflow_add-n : goal.overflow_add-n
-overflow_add-n c = omega (arith, said_short c.say.result)
+overflow_add-n g c = omega (arith, said_short c.say.result)
 
-pub loop-i-preserved : goal.loop-i-preserved
-loop-i-preserved c =
-    let said = c.say in
-    let n = c.count-n.ensures in
-    counting_turn c.loop-i.invariant (omega arith) (n ∙ ap length said.ensures) (omega (arith, said_short said.result)) c.next-set.ensures
+pub loop-m-preserved : goal.loop-m-preserved
+loop-m-preserved g c =
+    let here = c.in_set.ensures in
+    let said = rw (here.0, here.1) at c.say.ensures in
+    counting_turn _ g.met.T.Element.as_many c.loop-m.invariant c.loop-m-test.true (c.count-n.ensures ∙ ap length said) (omega (arith, said_short c.say.result))
+    c.next-set.ensures
 
 pub returns : goal.returns
-returns c = counting_end c.loop-i.invariant (omega arith)
+returns g c = counting_end c.loop-m.invariant c.loop-m-test.false

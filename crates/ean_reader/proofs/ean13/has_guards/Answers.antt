@@ -1,23 +1,30 @@
--- `ean_reader::ean13::has_guards` meets its contract: the length and three guards.
+-- `ean_reader::ean13::has_guards` meets its contract: three guards, in a row that has the length.
 -- Assumes nothing.
-use mathlib.Core.Path.{refl, sym, ◌∙◌}
-use borrow.Author.Tests.{eq-eqb, ne_eqb}
+use mathlib.Core.Path.{◌≡◌, sym, ◌∙◌}
+use mathlib.Core.Bool.{◌&&◌}
+use lib.ListN.{take, drop}
+use borrow.Author.Tests.{eq-eqb}
+use Rattle.helpers.specs.Answers.{same}
 use Rattle.ean.specs.Ean13.{guard, centre}
 use Rattle.ean.specs.Terms.{framed}
+use Rattle.ean_reader.proofs.Finds.{cells_other}
 use Rattle.ean_reader.proofs.ean13.has_guards.Goals as goal
+use Rattle.ean_reader.proofs.ean13.has_guards.Goals.{then-eq, else-eq}
 
-pub returns-then-row-ne-CELLS : goal.returns-then-row-ne-CELLS
-unfolding framed
-returns-then-row-ne-CELLS c = rw (ne_eqb _ _ c.if-row-ne-CELLS.true) refl
-
-pub returns-then-not-same_at : goal.returns-then-not-same_at
-unfolding framed guard
-returns-then-not-same_at c = rw (eq-eqb _ _ c.if-row-ne-CELLS.false, sym c.same_at.ensures ∙ c.if-not-same_at.true) refl
-
-pub returns-then-not-same_at-2 : goal.returns-then-not-same_at-2
+pub returns-then-eq-2 : goal.returns-then-eq-2
 unfolding framed guard centre
-returns-then-not-same_at-2 c = rw (eq-eqb _ _ c.if-row-ne-CELLS.false, sym c.same_at.ensures ∙ c.if-not-same_at.false, sym c.same_at-2.ensures ∙ c.if-not-same_at-2.true) refl
+returns-then-eq-2 c =
+    let row = c.args.row.now in
+    let first : c.eq.result ≡ same guard (take 3 (drop 0 row)) = c.eq.ensures ∙ cells_other guard _ in
+    let both : c.if-eq.value ≡ (same guard (take 3 (drop 0 row)) && same centre (take 5 (drop 45 row))) =
+    elim c.if-eq.branch [ then-eq w ↦ rw (sym first ∙ w.if-eq.true) (w.value-is ∙ w.eq-then-eq.ensures ∙ cells_other centre _) | else-eq w ↦ rw (sym first ∙ w.if-eq.false) (w.value-is ∙ w.if-eq.false) ] in
+    rw (eq-eqb _ _ c.told-row, sym both ∙ c.if-eq-2.true) (c.eq-then-eq-2.ensures ∙ cells_other guard _)
 
-pub returns : goal.returns
+pub returns-else-eq-2 : goal.returns-else-eq-2
 unfolding framed guard centre
-returns c = rw (eq-eqb _ _ c.if-row-ne-CELLS.false, sym c.same_at.ensures ∙ c.if-not-same_at.false, sym c.same_at-2.ensures ∙ c.if-not-same_at-2.false) c.same_at-3.ensures
+returns-else-eq-2 c =
+    let row = c.args.row.now in
+    let first : c.eq.result ≡ same guard (take 3 (drop 0 row)) = c.eq.ensures ∙ cells_other guard _ in
+    let both : c.if-eq.value ≡ (same guard (take 3 (drop 0 row)) && same centre (take 5 (drop 45 row))) =
+    elim c.if-eq.branch [ then-eq w ↦ rw (sym first ∙ w.if-eq.true) (w.value-is ∙ w.eq-then-eq.ensures ∙ cells_other centre _) | else-eq w ↦ rw (sym first ∙ w.if-eq.false) (w.value-is ∙ w.if-eq.false) ] in
+    rw (eq-eqb _ _ c.told-row, sym both ∙ c.if-eq-2.false) c.if-eq-2.false

@@ -8,4 +8,6 @@ use Rattle.ean.proofs.Lists.{map_at}
 use Rattle.ean_reader.proofs.ean13.put_text.Goals as goal
 
 pub loop-i-preserved : goal.loop-i-preserved
-loop-i-preserved c = (omega arith, storing_turn c.loop-i.invariant.1 _ _ (omega arith) (omega (arith, length-map c.args.digits.now (λ (d : ℕ). d + 48))) (map_at (λ d. d + 48) c.args.digits.now c.loop-i.i (omega arith)))
+loop-i-preserved c =
+    let digits = c.args.digits.now in
+    storing_turn c.loop-i.invariant _ _ (omega arith) (omega (arith, length-map digits (λ (d : ℕ). d + 48))) (map_at (λ d. d + 48) digits c.loop-i.i (omega arith))

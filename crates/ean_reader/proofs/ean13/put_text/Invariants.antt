@@ -1,10 +1,7 @@
-use Prim.Native.Nat.{◌+◌, ◌-◌, ◌≤◌}
+use Prim.Native.Nat.{◌+◌}
 use mathlib.Core.List.{map}
 use Rattle.helpers.proofs.Writes.{Storing}
 use Rattle.ean_reader.proofs.ean13.put_text.Given as goal
 
 abbrev pub invariant-loop-i : goal.invariant-loop-i
-invariant-loop-i l = (l.i ≤ 13) × Storing l.initial.text 0 (map (λ d. d + 48) l.digits) l.text l.i
-
-abbrev pub decreases-loop-i : goal.decreases-loop-i
-decreases-loop-i l = 13 - l.i
+invariant-loop-i l = Storing l.initial.text 0 (map (λ d. d + 48) l.digits) l.text l.i

@@ -7,25 +7,23 @@ use Rattle.line.proofs.Forms.{forming_begin, forming_on, forming_ends, forming_w
 use Rattle.line.proofs.form.read_points.Goals as goal
 use Rattle.line.proofs.form.read_points.Goals.{in-GoesOn, in-PointEnds}
 
-pub loop-i-init : goal.loop-i-init
-loop-i-init c = forming_begin (omega arith) (omega arith) (omega arith)
+pub loop-b-init : goal.loop-b-init
+loop-b-init c = rw (c.default-number.ensures.0, c.default-number.ensures.1) (forming_begin (omega arith) (omega arith) (omega arith))
 
-pub returns-in-Misplaced : goal.returns-in-Misplaced
-unfolding as_effect
-returns-in-Misplaced c = let read = c in
-    forming_wrong read.loop-i.invariant (omega arith) (sym read.read_byte.ensures ∙ ap as_effect c.in-Misplaced.is) _
+pub returns-in_err-more : goal.returns-in_err-more
+returns-in_err-more c = rw c.from_residual.ensures (forming_wrong c.loop-b.invariant (omega arith) (sym c.read_byte.ensures ∙ ap as_effect c.in_err-more.was))
 
-pub loop-i-preserved : goal.loop-i-preserved
-unfolding as_effect
-loop-i-preserved c =
-    let inv = c.loop-i.invariant in
-    elim c.match-read_byte.branch [
-      | in-GoesOn w ↦ rw (w.text-is, w.k-is, w.v-is, w.n-is) (forming_on inv (omega arith) (sym c.read_byte.ensures ∙ ap as_effect w.in-GoesOn.is))
-      | in-PointEnds w ↦ rw (w.text-is, w.k-is, w.v-is, w.n-is) (forming_ends inv (omega arith) (sym c.read_byte.ensures ∙ ap as_effect w.in-PointEnds.is))
+pub loop-b-preserved : goal.loop-b-preserved
+loop-b-preserved c =
+    let inv = c.loop-b.invariant in
+    let read = sym c.read_byte.ensures ∙ ap as_effect c.in_ok-more.was in
+    elim c.match-branch-2.branch [
+      | in-GoesOn w ↦ rw (w.text-is, w.number-is, w.n-is) (forming_on inv (omega arith) (rw w.in-GoesOn.is at read))
+      | in-PointEnds w ↦ rw (w.text-is, w.number-is, w.n-is, w.default-number-in-PointEnds.ensures.0, w.default-number-in-PointEnds.ensures.1) (forming_ends inv (omega arith) (rw w.in-PointEnds.is at read))
     ]
 
-pub returns-then-k-lt1 : goal.returns-then-k-lt1
-returns-then-k-lt1 c = forming_none c.loop-i.invariant (omega arith) (omega arith) _
+pub returns-else-number-gt0 : goal.returns-else-number-gt0
+returns-else-number-gt0 c = forming_none c.loop-b.invariant (omega arith) (omega arith)
 
-pub returns : goal.returns
-returns c = forming_end c.loop-i.invariant (omega arith) (omega arith)
+pub returns-then-number-gt0 : goal.returns-then-number-gt0
+returns-then-number-gt0 c = forming_end c.loop-b.invariant (omega arith) (omega arith)
