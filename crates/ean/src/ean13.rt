@@ -52,7 +52,7 @@ pub static ENCODINGS: [[[u8; 7]; 10]; 3] = [
 ];
 
 // The sets of the six digits left of the centre, for each first digit.
-// Stays: sets as 0, 1 and 2, as in the crate's table: they index ENCODINGS.
+// Stays: sets as numbers: they index ENCODINGS, so an enum would be cast at each use.
 pub static PARITY: [[u8; 6]; 10] = [
     [0, 0, 0, 0, 0, 0],
     [0, 0, 1, 0, 1, 1],

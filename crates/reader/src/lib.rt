@@ -14,7 +14,7 @@ use helpers::{Answer, Refusal};
 
 // The cells of a block as one word, the first cell in the top bit, so that its ones are the bar
 // cells.
-// Stays: Each is asked of the row and of its blocks; a type would be made anew for each block.
+// Stays: that cells are 0 or 1; a type for it would be made anew for each block that is cut.
 fn word(cells: &[u8]) -> u16
     requires { (length cells.now ≤ 11) × Each (λ c. c ≤ 1) cells.now }
     ensures { result ≡ word_of 0 cells.now }
@@ -152,7 +152,7 @@ fn read_by(row: &[u8], list: &mut [u8], out: &mut [u8]) -> Answer
 pub fn read(row: &[u8], out: &mut [u8]) -> Answer
     ensures { Gave (Paper.read (length out.old) row.now) (number_of result) (second_of result) out.old out.new }
 {
-    // Stays: two calls: the row's length says which list is cleared; one for both is cleared whole.
+    // Stays: a const parameter is no plainer, also two calls; it took 848 bytes more.
     if row.len() <= 11 * 256 + 13 {
         read_by(row, &mut [0; 256], out)
     } else {

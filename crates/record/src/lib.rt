@@ -141,7 +141,7 @@ fn test_count(record: &[u8]) -> Answer
 }
 
 // The tests of a record: 20, 21, 22, 23. A record that passes is accepted with its number of cells.
-// Stays: the version is a byte of the record, and the papers call it by its number.
+// Stays: an enum would be made of this byte and turned back to it; the papers say 1 and 2.
 fn test(record: &[u8]) -> Answer
     ensures { answers result ≡ tested «record».now }
 {

@@ -85,9 +85,9 @@ fn pump(rt: &impl Print, chunk: &[u8], line: &mut Line) {
     }
 }
 
-// Stays: near to the label program's own, but it shows each answer and tells no failure.
 // Reads to the input's end, which a read that fails is too, and goes over what comes. A proved loop
 // has to end, so it takes a number of turns that no run uses up.
+// Stays: near to the label program's own, but it shows each answer and tells no failure.
 fn drain(rt: &impl Print, input: &mut impl Read, line: &mut Line) {
     let mut chunk = [0u8; 65536];
     for _ in 0..u64::MAX {

@@ -57,7 +57,7 @@ impl CharacterSet {
     }
 
     // The number of the set's START, 0 for `None`.
-    // Stays: public, and it gives a number for each set; `start` is the one that the code asks.
+    // Stays: public, and its contract gives 0 for `None`; the code itself asks `start`.
     #[tactic(auto, using(crate::proofs::Lookups::start_or_zero))]
     pub fn index(self) -> u8
         ensures { result ≡ start_of (set_of self) }
