@@ -22,7 +22,7 @@ enum Failure {
     Write(io::Error),
 }
 
-// Says what failed and why: the system's words for the error. (`io::Error` writes its number behind
+// Says what failed and why: the system's words for the error. (`io::Error` writes its number after
 // them, as ` (os error 28)`; that is cut off. 96 bytes hold both.)
 impl fmt::Display for Failure {
     fn fmt<W: fmt::Write>(&self, f: &mut fmt::Formatter<W>) -> fmt::Result {

@@ -21,7 +21,7 @@ fn decimal(out: &mut [u8], at: usize, n: usize) -> usize
 
 // Stores an answer's two numbers, a blank between them, at the front of `out`; returns the place
 // after them.
-// Stays: it returns a place and no slice of `out`, since a row's head goes on behind it.
+// Stays: it returns a place and no slice of `out`, since a row's head goes on after it.
 fn put_numbers(out: &mut [u8], number: usize, second: usize) -> usize
     requires { length (decimal number ++ (32 ∷ decimal second)) ≤ length out.old }
     ensures { Stored (decimal number ++ (32 ∷ decimal second)) out.old 0 out.new result }
