@@ -43,7 +43,7 @@ fn spread(part: &mut [u8], m: u8)
     requires { (length part.old ≡ 11) × (m < 106) }
     ensures { part.new ≡ pattern m }
 {
-    let word = usize::from(chars::WORDS[usize::from(m)]);
+    let word = usize::from(chars::word_table()[usize::from(m)]);
     part[..4].copy_from_slice(&chars::QUADS[word / 128 % 16].to_le_bytes());
     part[4..8].copy_from_slice(&chars::QUADS[word / 8 % 16].to_le_bytes());
     part[8..11].copy_from_slice(&chars::QUADS[word % 8 * 2].to_le_bytes()[..3]);

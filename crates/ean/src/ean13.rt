@@ -12,7 +12,7 @@ use helpers::{Answer, Refusal};
 
 // The cells of the digits 0 to 9 in the sets A, B and C: the left side with odd parity and with
 // even parity, and the right side.
-pub static ENCODINGS: [[[u8; 7]; 10]; 3] = [
+pub const ENCODINGS: [[[u8; 7]; 10]; 3] = [
     [
         [0, 0, 0, 1, 1, 0, 1],
         [0, 0, 1, 1, 0, 0, 1],
@@ -53,7 +53,7 @@ pub static ENCODINGS: [[[u8; 7]; 10]; 3] = [
 
 // The sets of the six digits left of the centre, for each first digit.
 // Stays: sets as numbers: they index ENCODINGS, so an enum would be cast at each use.
-pub static PARITY: [[u8; 6]; 10] = [
+pub const PARITY: [[u8; 6]; 10] = [
     [0, 0, 0, 0, 0, 0],
     [0, 0, 1, 0, 1, 1],
     [0, 0, 1, 1, 0, 1],

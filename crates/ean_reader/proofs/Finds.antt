@@ -33,7 +33,7 @@ cells_same (x ∷ xs) (y ∷ ys) = ap (λ (b : Bool). nat_eq x y && b) (cells_sa
 
 -- ---- four cells asked at once
 
-abbrev Bytes : List ℕ → Type 0
+abbrev pub Bytes : List ℕ → Type 0
 Bytes l = (i : ℕ) → get_or l i 0 < 256
 
 bytes_take : (n : ℕ) (l : List ℕ) → Bytes l → Bytes (take n l)

@@ -16,7 +16,7 @@ use helpers::{Answer, Refusal};
 // cells.
 // Stays: that cells are 0 or 1; a type for it would be made anew for each block that is cut.
 fn word(cells: &[u8]) -> u16
-    requires { (length cells.now ≤ 11) × Each (λ c. c ≤ 1) cells.now }
+    requires { (length cells.now ≡ 11) × Each (λ c. c ≤ 1) cells.now }
     ensures { result ≡ word_of 0 cells.now }
 {
     let mut w = 0;
@@ -38,7 +38,7 @@ fn find(cells: &[u8], b: usize) -> Result<u8, Refusal>
     let block = word(cells);
     'search: {
         if cells[0] == 1 {
-            'patterns: for (s, &pattern) in code128::chars::WORDS.iter().enumerate() {
+            'patterns: for (s, &pattern) in code128::chars::word_table().iter().enumerate() {
                 for j in 1..11u16 {
                     if (block >> (10 - j)) % 2 != (pattern >> (10 - j)) % 2 {
                         continue 'patterns;

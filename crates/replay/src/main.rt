@@ -5,13 +5,15 @@
 // makes the list by running the crate.
 #![tactic(auto)]
 
-ghost use Rattle.std.specs.Prelude.{◌≤◌, length};
+ghost use Rattle.std.specs.Prelude.{ℕ, List, ◌≡◌, ◌≤◌, ◌++◌, length};
 
 use lines::{ANSWER, Finished, LINE, Line};
 use std::io::Read;
 
-// What stands after the last blank, or all: there are the cells.
-fn after_blank(line: &[u8]) -> &[u8] {
+// What stands after the last blank, or all: there are the cells. It is the line's end.
+fn after_blank(line: &[u8]) -> &[u8]
+    ensures { (front : List ℕ) × (line.now ≡ front ++ result.now) }
+{
     line.rsplit(|b| *b == b' ').next().unwrap_or(line)
 }
 

@@ -16,14 +16,16 @@ use Rattle.helpers.specs.Numbers.{number_of, second_of}
 use Rattle.helpers.specs.Terms.{answers, bare}
 use Rattle.helpers.proofs.Answering.{into_short, into_room, whole_accept}
 use Rattle.helpers.proofs.Gives.{refused, stored, bare_refuse, bare_accept}
-use Rattle.paper.specs.Iso15417.{sent, scanned}
+use Rattle.paper.specs.Iso15417.{before, sent, scanned}
 use Rattle.paper.specs.Crate.{letters, spelled}
 use Rattle.paper.specs.Jobs.{of_list, spell, scan}
+use Rattle.paper.specs.Shift.{unshifted, scan_unshifted}
 use Rattle.paper.proofs.Lists.{symbol_list}
+use Rattle.paper.proofs.Shifting.{scan_bare}
 use Rattle.shapes.specs.Vetted.{vetted}
 use Rattle.shapes.proofs.Shaping.{list_refused, list_passed}
 use Rattle.speller.specs.Walked.{output, fitted}
-use Rattle.speller.proofs.Walks.{output_spelled, output_scanned}
+use Rattle.speller.proofs.Walks.{walked_sent, output_spelled, output_scanned}
 
 -- ---- what `fit` answers is what a job answers, but for the output
 
@@ -47,10 +49,15 @@ pub spell_fitted : (room : ℕ) (s : List ℕ) → fitted (length (output (λ s 
 unfolding spell
 spell_fitted room s = rw (output_spelled s) (fitted_bare room s (spelled s))
 
--- and for bytes
-pub scan_fitted : (room : ℕ) (s : List ℕ) → fitted (length (output (λ s t m. sent t m) s)) room s ≡ bare (scan room s)
+-- and for bytes, reckoned by the walk that does not look at Shift, which is the walk that counts
+pub scan_fitted : (room : ℕ) (s : List ℕ) → fitted (length (output (λ s t m. sent s m) s)) room s ≡ bare (scan room s)
+unfolding scan_unshifted
+scan_fitted room s = rw (walked_sent before before s) (fitted_bare room s (unshifted before s) ∙ sym (scan_bare room s))
+
+-- and by the walk that writes
+pub scan_fitted_shifted : (room : ℕ) (s : List ℕ) → fitted (length (output (λ s t m. sent t m) s)) room s ≡ bare (scan room s)
 unfolding scan
-scan_fitted room s = rw (output_scanned s) (fitted_bare room s (scanned s))
+scan_fitted_shifted room s = rw (output_scanned s) (fitted_bare room s (scanned s))
 
 -- ---- the ways out of `fit`
 

@@ -53,6 +53,14 @@ impl From<Said<u8>> for Said<u32> {
     }
 }
 
+// The set after a number. Nothing below 99 switches, and most numbers are asked that alone.
+#[tactic(auto, using(paper::proofs::Codes::next_low))]
+fn set_after(set: CharacterSet, m: u8) -> CharacterSet
+    ensures { set_of result ≡ next (set_of set) m }
+{
+    if m < 99 { set } else { set.next(m) }
+}
+
 // Where a number stands: the set that the numbers before it have led to, and the set that text, a
 // number below 96, is read in: right after a Shift the other of A and B, and else the same.
 #[derive(Clone, Copy)]
@@ -81,7 +89,7 @@ impl Place {
                 set: self.set,
                 text: other(self.set),
             },
-            _ => Place::in_set(self.set.next(m)),
+            _ => Place::in_set(set_after(self.set, m)),
         }
     }
 }
@@ -105,9 +113,8 @@ fn sent(set: CharacterSet, m: u8) -> Said<u8>
     ensures { said_of result ≡ sent (set_of set) m }
 {
     match (set, m) {
-        (CharacterSet::A, 0..=63) | (CharacterSet::B, 0..=94) => Said::One(m + 32),
+        (CharacterSet::A, 0..=63) | (CharacterSet::B, 0..=95) => Said::One(m + 32), // 95 is DEL
         (CharacterSet::A, 64..=95) => Said::One(m - 64),
-        (CharacterSet::B, 95) => Said::One(0x7F), // DEL
         (CharacterSet::C, 0..=99) => Said::Two(b'0' + m / 10, b'0' + m % 10),
         _ => Said::Nothing,
     }
@@ -135,6 +142,7 @@ fn own(set: CharacterSet, m: u8) -> Option<u32>
 
 // The code points of a number: its own letter, or else what a scanner sends for it.
 #[tactic(auto, using(crate::proofs::Says::own_or_sent), unfolding(crate::specs::Walked::said_of))]
+#[inline(always)]
 fn letters(set: CharacterSet, m: u8) -> Said<u32>
     ensures { said_of result ≡ letters (set_of set) m }
 {
@@ -163,6 +171,7 @@ impl Element for u32 {
 
     ghost as_many = { λ s m. refl };
 
+    #[inline(always)]
     fn say(place: Place, m: u8) -> Said<u32> {
         letters(place.set, m)
     }
@@ -189,7 +198,7 @@ fn needed<T: Element>(symbols: &[u8]) -> usize
     let mut n = 0;
     for &m in symbols {
         n += T::say(Place::in_set(set), m).count();
-        set = set.next(m);
+        set = set_after(set, m);
     }
     n
 }

@@ -35,7 +35,7 @@ looked_not : (b : Bool) (k : ℕ) → (if b then Retired else Unit k) ≡ Nothin
 looked_not true k e = let z : ◌≡◌ {A = ℕ} 0 1 = cc in omega arith
 looked_not false k e = let z : ◌≡◌ {A = ℕ} 0 1 = cc in omega arith
 
-looked_nothing : (o : Option ℕ) → Nothing ≡ lookup_of o → o ≡ none
+pub looked_nothing : (o : Option ℕ) → Nothing ≡ lookup_of o → o ≡ none
 unfolding lookup_of
 looked_nothing none e = refl
 looked_nothing (some k) e = absurd (looked_not (eqb k 97) k (sym e))

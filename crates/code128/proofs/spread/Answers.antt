@@ -2,6 +2,7 @@
 -- Assumes nothing.
 use Prim.Native.Nat.{ℕ, ◌/◌, ◌%◌, ◌*◌}
 use mathlib.Core.Path.{◌≡◌, refl, sym, ap, ◌∙◌}
+use mathlib.Core.List.{List}
 use native.Mathlib.Omega.{arith}
 use lib.ListN.{length, get_or, take, length-take}
 use Rattle.paper.specs.Jobs.{bits}
@@ -26,7 +27,7 @@ unfolding iso15417_computes bits words_from words quads_from quads low_bytes spr
 returns c =
     let m = c.args.m in
     let w = c.from-word.result in
-    let word : w ≡ get_or words m 0 = c.from-word.ensures ∙ ap (λ (n : ℕ). get_or words n 0) c.from.ensures in
+    let word : w ≡ get_or words m 0 = c.from-word.ensures ∙ ap (λ (t : List ℕ). get_or t c.from.result 0) c.word_table.ensures ∙ ap (λ (n : ℕ). get_or words n 0) c.from.ensures in
     let a = get_or quads (w / 128 % 16) 0 in
     let b = get_or quads (w / 8 % 16) 0 in
     let d = get_or quads (w % 8 * 2) 0 in

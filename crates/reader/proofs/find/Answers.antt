@@ -33,7 +33,7 @@ pub loop-j-init : goal.loop-j-init
 unfolding iso15417_computes bits words_from words
 loop-j-init c =
     let v = block_cells c.args.cells.now _ c.requires.0 c.requires.1 c.word-block.ensures in
-    hunt_match c.patterns.invariant _ v refl (omega arith) c.if-search.true
+    hunt_match c.patterns.invariant _ v c.word_table-pattern-items.ensures (omega arith) c.if-search.true
 
 pub loop-j-preserved : goal.loop-j-preserved
 loop-j-preserved c = match_turn c.loop-j.invariant (omega arith) c.if-block-j.false
@@ -42,13 +42,13 @@ pub patterns-preserved : goal.patterns-preserved
 unfolding iso15417_computes bits words_from words
 patterns-preserved c =
     let v = block_cells c.args.cells.now _ c.requires.0 c.requires.1 c.word-block.ensures in
-    hunt_turn c.patterns.invariant _ v refl (omega arith) (match_not c.loop-j.invariant (omega arith) c.if-block-j.true)
+    hunt_turn c.patterns.invariant _ v c.word_table-pattern-items.ensures (omega arith) (match_not c.loop-j.invariant (omega arith) c.if-block-j.true)
 
 pub returns-after-loop-j : goal.returns-after-loop-j
 unfolding found_as iso15417_computes bits words_from words
 returns-after-loop-j c =
     let v = block_cells c.args.cells.now _ c.requires.0 c.requires.1 c.word-block.ensures in
-    rw (hunt_hit c.patterns.invariant _ v refl (omega arith) (match_end c.loop-j.invariant (omega arith))) refl
+    rw (hunt_hit c.patterns.invariant _ v c.word_table-pattern-items.ensures (omega arith) (match_end c.loop-j.invariant (omega arith))) refl
 
 -- where the search has ended, or was not begun, the block is none of the patterns
 pub returns-then-block-eq1 : goal.returns-then-block-eq1

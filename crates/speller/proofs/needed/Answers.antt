@@ -20,7 +20,7 @@ loop-m-preserved g c =
     let here = c.in_set.ensures in
     let said = rw (here.0, here.1) at c.say.ensures in
     counting_turn _ g.met.T.Element.as_many c.loop-m.invariant c.loop-m-test.true (c.count-n.ensures ∙ ap length said) (omega (arith, said_short c.say.result))
-    c.next-set.ensures
+    c.set_after-set.ensures
 
 pub returns : goal.returns
 returns g c = counting_end c.loop-m.invariant c.loop-m-test.false

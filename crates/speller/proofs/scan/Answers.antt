@@ -3,7 +3,7 @@
 use mathlib.Core.Path.{refl, ◌∙◌}
 use Rattle.paper.specs.Jobs.{scan}
 use Rattle.speller.proofs.Walks.{output_scanned}
-use Rattle.speller.proofs.Fits.{scan_fitted, job_gave}
+use Rattle.speller.proofs.Fits.{scan_fitted_shifted, job_gave}
 use Rattle.speller.proofs.scan.Goals as goal
 
 pub returns : goal.returns
@@ -11,4 +11,4 @@ unfolding scan
 returns c =
     let w = c.write_out.ensures in
     let written = rw (output_scanned c.args.symbols.now) at w.written in
-    job_gave _ _ _ _ (w.answered ∙ scan_fitted _ _) written w.refused refl
+    job_gave _ _ _ _ (w.answered ∙ scan_fitted_shifted _ _) written w.refused refl
