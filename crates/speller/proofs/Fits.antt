@@ -16,12 +16,12 @@ use Rattle.helpers.specs.Numbers.{number_of, second_of}
 use Rattle.helpers.specs.Terms.{answers, bare}
 use Rattle.helpers.proofs.Answering.{into_short, into_room, whole_accept}
 use Rattle.helpers.proofs.Gives.{refused, stored, bare_refuse, bare_accept}
-use Rattle.paper.specs.Iso15417.{before, sent, scanned}
+use Rattle.paper.specs.Iso15417.{before, sent}
 use Rattle.paper.specs.Crate.{letters, spelled}
 use Rattle.paper.specs.Jobs.{of_list, spell, scan}
 use Rattle.paper.specs.Shift.{unshifted, scan_unshifted}
 use Rattle.paper.proofs.Lists.{symbol_list}
-use Rattle.paper.proofs.Shifting.{scan_bare}
+use Rattle.paper.proofs.Shifting.{scan_bare, scan_same_length}
 use Rattle.shapes.specs.Vetted.{vetted}
 use Rattle.shapes.proofs.Shaping.{list_refused, list_passed}
 use Rattle.speller.specs.Walked.{output, fitted}
@@ -54,10 +54,11 @@ pub scan_fitted : (room : ℕ) (s : List ℕ) → fitted (length (output (λ s t
 unfolding scan_unshifted
 scan_fitted room s = rw (walked_sent before before s) (fitted_bare room s (unshifted before s) ∙ sym (scan_bare room s))
 
--- and by the walk that writes
+-- and so by the walk that writes, since Shift changes which bytes are sent and never how many
 pub scan_fitted_shifted : (room : ℕ) (s : List ℕ) → fitted (length (output (λ s t m. sent t m) s)) room s ≡ bare (scan room s)
-unfolding scan
-scan_fitted_shifted room s = rw (output_scanned s) (fitted_bare room s (scanned s))
+scan_fitted_shifted room s =
+    let as_many : length (output (λ s t m. sent t m) s) ≡ length (output (λ s t m. sent s m) s) = rw (output_scanned s, walked_sent before before s) (scan_same_length s) in
+    ap (λ (k : ℕ). fitted k room s) as_many ∙ scan_fitted room s
 
 -- ---- the ways out of `fit`
 
